@@ -1,0 +1,98 @@
+//! The plain machine of a session. It redraws the picture whole by the original, and takes nothing from the library.
+
+use super::original;
+
+pub struct Machine {
+    w: usize,
+    h: usize,
+    pub picture: Vec<u32>,
+    pub stale: Vec<bool>,
+    pub output: Vec<u32>,
+    /// The present picture enlarged whole, where it was asked for since the last change.
+    whole: Option<Vec<u32>>,
+}
+
+#[derive(Clone, Copy, Debug)]
+pub enum Call {
+    Paint { column: u32, row: u32, word: u32 },
+    Refresh { n: u32 },
+    Show { bx: u32, by: u32 },
+}
+
+#[derive(Clone, Copy, Debug, PartialEq, Eq)]
+pub enum Answer {
+    Refused(u32),
+    Unchanged { stale: u32 },
+    Painted { stale: u32 },
+    Refreshed { drawn: u32, left: u32 },
+    Shown([u32; 9]),
+}
+
+impl Machine {
+    /// Every block is stale, every output word 0.
+    pub fn open(w: usize, h: usize, picture: &[u32]) -> Machine {
+        let picture = picture[..w * h].to_vec();
+        Machine { w, h, picture, stale: vec![true; w * h], output: vec![0; 9 * w * h], whole: None }
+    }
+
+    pub fn stale_count(&self) -> u32 {
+        self.stale.iter().filter(|&&s| s).count() as u32
+    }
+
+    pub fn call(&mut self, call: Call) -> Answer {
+        match call {
+            Call::Paint { column, row, word } => match self.place(column, row) {
+                Some(at) => self.paint(at, word),
+                None => Answer::Refused(5),
+            },
+            Call::Refresh { n } => self.refresh(n),
+            Call::Show { bx, by } => match self.place(bx, by) {
+                Some(at) if self.stale[at] => Answer::Refused(7),
+                Some(at) => Answer::Shown(self.places(at).map(|i| self.output[i])),
+                None => Answer::Refused(5),
+            },
+        }
+    }
+
+    /// A position's number in row order, if it is inside the picture.
+    fn place(&self, x: u32, y: u32) -> Option<usize> {
+        let (x, y) = (x as usize, y as usize);
+        (x < self.w && y < self.h).then(|| y * self.w + x)
+    }
+
+    /// The places in the output of a block's nine words, row by row.
+    fn places(&self, at: usize) -> [usize; 9] {
+        let (bx, by) = (at % self.w, at / self.w);
+        std::array::from_fn(|k| (3 * by + k / 3) * (3 * self.w) + 3 * bx + k % 3)
+    }
+
+    fn paint(&mut self, at: usize, word: u32) -> Answer {
+        if self.picture[at] == word {
+            return Answer::Unchanged { stale: self.stale_count() };
+        }
+        self.picture[at] = word;
+        self.whole = None;
+        let (column, row) = ((at % self.w) as isize, (at / self.w) as isize);
+        for (i, stale) in self.stale.iter_mut().enumerate() {
+            let (bx, by) = ((i % self.w) as isize, (i / self.w) as isize);
+            if (column - 6..=column + 6).contains(&bx) && (row - 5..=row + 6).contains(&by) {
+                *stale = true;
+            }
+        }
+        Answer::Painted { stale: self.stale_count() }
+    }
+
+    fn refresh(&mut self, n: u32) -> Answer {
+        let blocks = 0..self.stale.len();
+        let first: Vec<usize> = blocks.filter(|&at| self.stale[at]).take(n as usize).collect();
+        let whole = self.whole.take().unwrap_or_else(|| original::scale(&self.picture, self.w, self.h));
+        for &at in &first {
+            self.stale[at] = false;
+            for i in self.places(at) {
+                self.output[i] = whole[i];
+            }
+        }
+        self.whole = Some(whole);
+        Answer::Refreshed { drawn: first.len() as u32, left: self.stale_count() }
+    }
+}

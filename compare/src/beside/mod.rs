@@ -1,0 +1,41 @@
+//! The comparisons that need the original.
+
+mod alone;
+mod bench;
+mod case;
+mod distance;
+mod font;
+mod lent;
+mod machine;
+mod original;
+mod page;
+mod pictures;
+mod random;
+mod record;
+mod session;
+mod whole;
+
+/// Runs a subcommand: whether nothing differs, or nothing where the words are not understood.
+pub fn run(name: &str, rest: &[&str]) -> Option<bool> {
+    match (name, rest) {
+        ("distance", _) => counted(distance::run, 2_000_000, rest),
+        ("whole", _) => counted(whole::run, 20_000, rest),
+        ("session", _) => counted(session::run, 40_000, rest),
+        ("page", _) => counted(page::run, 4_000, rest),
+        ("record", []) => Some(record::run()),
+        ("record", ["--write"]) => Some(record::write()),
+        ("bench", []) => Some(bench::run()),
+        ("bench", ["--calls", calls @ ..]) => bench::calls(calls),
+        _ => None,
+    }
+}
+
+/// A comparison that takes a count and a seed.
+fn counted(compare: fn(usize, u64) -> bool, count: usize, rest: &[&str]) -> Option<bool> {
+    match rest {
+        [] => Some(compare(count, 1)),
+        [count] => Some(compare(count.parse().ok()?, 1)),
+        [count, seed] => Some(compare(count.parse().ok()?, seed.parse().ok()?)),
+        _ => None,
+    }
+}

@@ -1,0 +1,258 @@
+//! The proved library's C face, and a safe function over each of its calls.
+//!
+//! `include/panel.h` says what each call does. A slice passes as a pointer and a length in elements.
+
+use std::os::raw::c_float;
+
+mod c {
+    use super::c_float;
+
+    extern "C" {
+        pub fn panel_root(x: c_float, root: *mut c_float) -> u32;
+        pub fn panel_distance(p: u32, q: u32) -> c_float;
+        pub fn panel_scale(
+            w: u32,
+            h: u32,
+            picture: *const u32,
+            picture_len: usize,
+            output: *mut u32,
+            output_len: usize,
+            singles: *mut c_float,
+            singles_len: usize,
+            bytes: *mut u8,
+            bytes_len: usize,
+        ) -> u32;
+        pub fn panel_scale9x(
+            w: u32,
+            h: u32,
+            picture: *const u32,
+            picture_len: usize,
+            output: *mut u32,
+            output_len: usize,
+            middle: *mut u32,
+            middle_len: usize,
+            singles: *mut c_float,
+            singles_len: usize,
+            bytes: *mut u8,
+            bytes_len: usize,
+        ) -> u32;
+        pub fn panel_open(
+            w: u32,
+            h: u32,
+            picture: *const u32,
+            picture_len: usize,
+            output: *mut u32,
+            output_len: usize,
+            marks: *mut u8,
+            marks_len: usize,
+            header: *mut [u32; 2],
+            stale: *mut u32,
+        ) -> u32;
+        pub fn panel_paint(
+            header: *const [u32; 2],
+            picture: *mut u32,
+            picture_len: usize,
+            marks: *mut u8,
+            marks_len: usize,
+            column: u32,
+            row: u32,
+            word: u32,
+            changed: *mut u32,
+            stale: *mut u32,
+        ) -> u32;
+        pub fn panel_refresh(
+            header: *const [u32; 2],
+            picture: *const u32,
+            picture_len: usize,
+            output: *mut u32,
+            output_len: usize,
+            marks: *mut u8,
+            marks_len: usize,
+            n: u32,
+            drawn: *mut u32,
+            left: *mut u32,
+        ) -> u32;
+        pub fn panel_show(
+            header: *const [u32; 2],
+            output: *const u32,
+            output_len: usize,
+            marks: *const u8,
+            marks_len: usize,
+            bx: u32,
+            by: u32,
+            words: *mut [u32; 9],
+        ) -> u32;
+        pub fn panel_read_page(
+            file: *const u8,
+            file_len: usize,
+            picture: *mut u32,
+            picture_len: usize,
+            w: *mut u32,
+            h: *mut u32,
+        ) -> u32;
+    }
+}
+
+/// What the numbers behind pointers hold before a call: a call must write every one of them.
+const UNWRITTEN: u32 = 0xdead_beef;
+
+pub fn root(x: f32) -> (u32, f32) {
+    let mut root = f32::from_bits(UNWRITTEN);
+    let refusal = unsafe { c::panel_root(x, &mut root) };
+    (refusal, root)
+}
+
+pub fn distance(p: u32, q: u32) -> f32 {
+    unsafe { c::panel_distance(p, q) }
+}
+
+pub fn scale(w: u32, h: u32, picture: &[u32], output: &mut [u32], singles: &mut [f32], bytes: &mut [u8]) -> u32 {
+    unsafe {
+        c::panel_scale(
+            w,
+            h,
+            picture.as_ptr(),
+            picture.len(),
+            output.as_mut_ptr(),
+            output.len(),
+            singles.as_mut_ptr(),
+            singles.len(),
+            bytes.as_mut_ptr(),
+            bytes.len(),
+        )
+    }
+}
+
+pub fn scale9x(
+    w: u32,
+    h: u32,
+    picture: &[u32],
+    output: &mut [u32],
+    middle: &mut [u32],
+    singles: &mut [f32],
+    bytes: &mut [u8],
+) -> u32 {
+    unsafe {
+        c::panel_scale9x(
+            w,
+            h,
+            picture.as_ptr(),
+            picture.len(),
+            output.as_mut_ptr(),
+            output.len(),
+            middle.as_mut_ptr(),
+            middle.len(),
+            singles.as_mut_ptr(),
+            singles.len(),
+            bytes.as_mut_ptr(),
+            bytes.len(),
+        )
+    }
+}
+
+#[derive(Debug, PartialEq, Eq)]
+pub struct Opened {
+    pub refusal: u32,
+    pub header: [u32; 2],
+    pub stale: u32,
+}
+
+pub fn open(w: u32, h: u32, picture: &[u32], output: &mut [u32], marks: &mut [u8]) -> Opened {
+    let mut header = [UNWRITTEN; 2];
+    let mut stale = UNWRITTEN;
+    let refusal = unsafe {
+        c::panel_open(
+            w,
+            h,
+            picture.as_ptr(),
+            picture.len(),
+            output.as_mut_ptr(),
+            output.len(),
+            marks.as_mut_ptr(),
+            marks.len(),
+            &mut header,
+            &mut stale,
+        )
+    };
+    Opened { refusal, header, stale }
+}
+
+#[derive(Debug, PartialEq, Eq)]
+pub struct Painted {
+    pub refusal: u32,
+    pub changed: u32,
+    pub stale: u32,
+}
+
+pub fn paint(header: [u32; 2], picture: &mut [u32], marks: &mut [u8], column: u32, row: u32, word: u32) -> Painted {
+    let (mut changed, mut stale) = (UNWRITTEN, UNWRITTEN);
+    let refusal = unsafe {
+        c::panel_paint(
+            &header,
+            picture.as_mut_ptr(),
+            picture.len(),
+            marks.as_mut_ptr(),
+            marks.len(),
+            column,
+            row,
+            word,
+            &mut changed,
+            &mut stale,
+        )
+    };
+    Painted { refusal, changed, stale }
+}
+
+#[derive(Debug, PartialEq, Eq)]
+pub struct Refreshed {
+    pub refusal: u32,
+    pub drawn: u32,
+    pub left: u32,
+}
+
+pub fn refresh(header: [u32; 2], picture: &[u32], output: &mut [u32], marks: &mut [u8], n: u32) -> Refreshed {
+    let (mut drawn, mut left) = (UNWRITTEN, UNWRITTEN);
+    let refusal = unsafe {
+        c::panel_refresh(
+            &header,
+            picture.as_ptr(),
+            picture.len(),
+            output.as_mut_ptr(),
+            output.len(),
+            marks.as_mut_ptr(),
+            marks.len(),
+            n,
+            &mut drawn,
+            &mut left,
+        )
+    };
+    Refreshed { refusal, drawn, left }
+}
+
+#[derive(Debug, PartialEq, Eq)]
+pub struct Shown {
+    pub refusal: u32,
+    pub words: [u32; 9],
+}
+
+pub fn show(header: [u32; 2], output: &[u32], marks: &[u8], bx: u32, by: u32) -> Shown {
+    let mut words = [UNWRITTEN; 9];
+    let refusal = unsafe {
+        c::panel_show(&header, output.as_ptr(), output.len(), marks.as_ptr(), marks.len(), bx, by, &mut words)
+    };
+    Shown { refusal, words }
+}
+
+#[derive(Debug, PartialEq, Eq)]
+pub struct Page {
+    pub refusal: u32,
+    pub w: u32,
+    pub h: u32,
+}
+
+pub fn read_page(file: &[u8], picture: &mut [u32]) -> Page {
+    let (mut w, mut h) = (UNWRITTEN, UNWRITTEN);
+    let refusal =
+        unsafe { c::panel_read_page(file.as_ptr(), file.len(), picture.as_mut_ptr(), picture.len(), &mut w, &mut h) };
+    Page { refusal, w, h }
+}

@@ -1,0 +1,67 @@
+-- The rest of a list from a cut on, as a part of a slice has it; the word that an offset of the table leads to; four bytes as tags; tags of 0. Assumes nothing.
+use mathlib.Core.Path.{_≡_, refl, sym, _∙_, ap}
+use mathlib.Core.List.{List, [], _∷_}
+use Prim.Native.Nat.{ℕ, zero, suc, _+_, _-_, _*_, _≤_}
+use native.Mathlib.Nat.{add-zero}
+use native.Mathlib.Omega.{arith}
+use lib.Dec.{lit<}
+use lib.IntN.{ℤ}
+use lib.ListN.{length, getD, take, drop, length-drop}
+use lib.Seq.{take-all}
+use mir.Syntax.{w32}
+use mir.Val.{SFits, toZ, ofZ}
+use mir.ValLaws.{toZ-ofZ}
+use Rattle.picture.specs.Picture.{near}
+use Rattle.tag.specs.declared.Offset.{Offset}
+use Rattle.tag.specs.Tag.{offsetOf}
+use Rattle.field.specs.declared.grid.Grid.{Grid}
+use Rattle.field.specs.Room.{Held}
+use Rattle.field.specs.Grid.{ofTags, rowOf}
+use Rattle.picture.specs.Fill.{put}
+use Rattle.tag.specs.declared.Tags.{Tags}
+use Rattle.block.specs.Block.{tagWord, blockFrom}
+use Rattle.block.specs.Window.{runOf}
+
+pub whole-rest : {E : Type 0} (cut : ℕ) (l : List E) → take (length l - cut) (drop cut l) ≡ drop cut l
+whole-rest cut l = take-all (length l - cut) (drop cut l) (omega (arith, length-drop cut l))
+
+pub held-rest : {E : Type 0} (g : Grid) (cut : ℕ) (l : List E) → cut + g .rows * (g .cols * 4) ≤ length l → Held g (length (take (length l - cut) (drop cut l)))
+held-rest g cut l h = rw (whole-rest cut l) (omega (arith, length-drop cut l))
+
+-- an offset of the table fits 32 bits, so it reaches a callee as it is
+fits : (tag : ℕ) → SFits w32 (offsetOf tag .dx) × SFits w32 (offsetOf tag .dy)
+fits zero = (record { sfits = lit< tt }, record { sfits = lit< tt })
+fits (suc zero) = (record { sfits = lit< tt }, record { sfits = lit< tt })
+fits (suc (suc zero)) = (record { sfits = lit< tt }, record { sfits = lit< tt })
+fits (suc (suc (suc zero))) = (record { sfits = lit< tt }, record { sfits = lit< tt })
+fits (suc (suc (suc (suc zero)))) = (record { sfits = lit< tt }, record { sfits = lit< tt })
+fits (suc (suc (suc (suc (suc zero))))) = (record { sfits = lit< tt }, record { sfits = lit< tt })
+fits (suc (suc (suc (suc (suc (suc zero)))))) = (record { sfits = lit< tt }, record { sfits = lit< tt })
+fits (suc (suc (suc (suc (suc (suc (suc zero))))))) = (record { sfits = lit< tt }, record { sfits = lit< tt })
+fits (suc (suc (suc (suc (suc (suc (suc (suc zero)))))))) = (record { sfits = lit< tt }, record { sfits = lit< tt })
+fits (suc (suc (suc (suc (suc (suc (suc (suc (suc t))))))))) = (record { sfits = lit< tt }, record { sfits = lit< tt })
+
+pub word-of : {A : Type 0} (f : ℕ → ℕ → A) (w h x y tag : ℕ) (o : Offset) (q : A) → o ≡ offsetOf tag
+    → q ≡ near w h f x y (toZ w32 (ofZ w32 (o .dx))) (toZ w32 (ofZ w32 (o .dy))) → q ≡ near w h f x y (offsetOf tag .dx) (offsetOf tag .dy)
+word-of f w h x y tag o q e k =
+    k
+    ∙ ap (λ (p : Offset). near w h f x y (toZ w32 (ofZ w32 (p .dx))) (toZ w32 (ofZ w32 (p .dy)))) e
+    ∙ ap (λ (z : ℤ). near w h f x y z (toZ w32 (ofZ w32 (offsetOf tag .dy)))) (toZ-ofZ w32 (offsetOf tag .dx) (fits tag .0))
+    ∙ ap (λ (z : ℤ). near w h f x y (offsetOf tag .dx) z) (toZ-ofZ w32 (offsetOf tag .dy) (fits tag .1))
+
+-- the tags of one pixel, read back from four bytes
+pub one-tags : (f : ℕ → ℕ → Tags) (x y : ℕ) (l : List ℕ) → l ≡ put 0 (rowOf ofTags (runOf x y 1) f y) (0 ∷ 0 ∷ 0 ∷ 0 ∷ [])
+    → _≡_ {A = Tags} (record { t0 = getD l 0 0; t1 = getD l 1 0; t2 = getD l 2 0; t3 = getD l 3 0 }) (f x y)
+unfolding put rowOf
+one-tags f x y l e = rw (e, add-zero x)
+
+-- where no tag names a neighbour, the block is nine copies of its pixel
+pub nine-copies : (w h : ℕ) (f : ℕ → ℕ → ℕ) (x y : ℕ) (t : Tags) (c : ℕ) → t .t0 + t .t1 + t .t2 + t .t3 ≡ 0 → c ≡ tagWord w h f x y 0
+    → (c ∷ c ∷ c ∷ c ∷ c ∷ c ∷ c ∷ c ∷ c ∷ []) ≡ blockFrom w h f x y t
+unfolding blockFrom
+nine-copies w h f x y t c z e =
+    let e0 : t .t0 ≡ 0 = omega arith in
+    let e1 : t .t1 ≡ 0 = omega arith in
+    let e2 : t .t2 ≡ 0 = omega arith in
+    let e3 : t .t3 ≡ 0 = omega arith in
+    rw (e0, e1, e2, e3, e)

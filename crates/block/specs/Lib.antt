@@ -1,0 +1,4 @@
+pub mod Block
+pub mod Locality
+pub mod Window
+pub mod Table

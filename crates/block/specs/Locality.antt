@@ -1,0 +1,68 @@
+-- What a block depends on, for every size of picture: section 6's box, and the cross that it follows from. Assumes nothing.
+use mathlib.Core.Path.{_≡_, refl, sym, _∙_, ap}
+use mathlib.Core.List.{List, [], _∷_}
+use Prim.Native.Nat.{ℕ, zero, suc, _+_, _≤_, _<_}
+use native.Mathlib.Omega.{arith}
+use lib.IntN.{ℤ, pos}
+use lib.ListN.{length, getD}
+use Rattle.picture.specs.Picture.{near, moved}
+use Rattle.picture.specs.Local.{Agree, narrower}
+use Rattle.picture.specs.Pipeline as Pipeline
+use Rattle.picture.specs.Pipeline.{Stages}
+use Rattle.metric.specs.declared.Metric.{Metric}
+use Rattle.metric.specs.declared.Weights.{Weights}
+use Rattle.metric.specs.Metric.{metricOf, metrics}
+use Rattle.metric.specs.Weight.{weightsOf, weights}
+use Rattle.junction.specs.declared.Junctions.{Junctions}
+use Rattle.junction.specs.Junction.{arbitrateJunctions, junctions}
+use Rattle.tag.specs.declared.Tags.{Tags}
+use Rattle.tag.specs.Tag.{traceEdges, tags, offsetOf}
+use Rattle.tag.specs.Laws.{offset-reaches}
+use Rattle.block.specs.Block.{corner, mid, pictureJunctions, pictureTags, tagWord, blockFrom, blockOf}
+
+-- the tag of word k of a block
+unfoldable pub tagOf : Tags → ℕ → ℕ
+tagOf t zero = corner (t .t0)
+tagOf t (suc zero) = mid (t .t0)
+tagOf t (suc (suc zero)) = corner (t .t1)
+tagOf t (suc (suc (suc zero))) = mid (t .t3)
+tagOf t (suc (suc (suc (suc zero)))) = 0
+tagOf t (suc (suc (suc (suc (suc zero))))) = mid (t .t1)
+tagOf t (suc (suc (suc (suc (suc (suc zero)))))) = corner (t .t3)
+tagOf t (suc (suc (suc (suc (suc (suc (suc zero))))))) = mid (t .t2)
+tagOf t (suc (suc (suc (suc (suc (suc (suc (suc k)))))))) = corner (t .t2)
+
+-- the passes of this repository
+unfoldable pub stages : Stages ℕ Metric Weights Junctions Tags
+stages = record {
+  metricOf = metricOf;
+  weightsOf = weightsOf;
+  junctionsOf = arbitrateJunctions;
+  tagsOf = traceEdges;
+  offX = λ t k. offsetOf (tagOf t k) .dx;
+  offY = λ t k. offsetOf (tagOf t k) .dy;
+}
+
+module _ (w h : ℕ) (f g : ℕ → ℕ → ℕ) (bx by : ℕ) (hx : bx < w) (hy : by < h) where
+  -- a block depends only on the pixels within six columns, three rows up and two down, and those within three columns, six rows up and five down
+  pub cross : Agree w h bx by 6 6 3 2 f g → Agree w h bx by 3 3 6 5 f g → blockOf w h f bx by ≡ blockOf w h g bx by
+  unfolding blockOf blockFrom tagWord pictureTags pictureJunctions tags junctions weights metrics Pipeline.blockWord Pipeline.tags Pipeline.junctions Pipeline.weights Pipeline.metrics stages tagOf
+  cross e e′ =
+      let q = Pipeline.cross stages (λ t k. offset-reaches (tagOf t k)) w h f g bx by hx hy e e′ in
+      λ i. q 0 i ∷ q 1 i ∷ q 2 i ∷ q 3 i ∷ q 4 i ∷ q 5 i ∷ q 6 i ∷ q 7 i ∷ q 8 i ∷ []
+
+  -- section 6: block (bx, by) depends on no pixel outside columns bx - 6 to bx + 6 and rows by - 6 to by + 5
+  pub box : Agree w h bx by 6 6 6 5 f g → blockOf w h f bx by ≡ blockOf w h g bx by
+  box e = cross (narrower (omega arith) (omega arith) (omega arith) (omega arith) e) (narrower (omega arith) (omega arith) (omega arith) (omega arith) e)
+
+-- section 6: a block has nine words, and the middle word is the pixel
+pub block-length : (w h : ℕ) (f : ℕ → ℕ → ℕ) (x y : ℕ) → length (blockOf w h f x y) ≡ 9
+unfolding blockOf blockFrom
+block-length w h f x y = refl
+
+pub middle-word : (w h : ℕ) (f : ℕ → ℕ → ℕ) (x y : ℕ) → x < w → y < h → getD (blockOf w h f x y) 4 0 ≡ f x y
+unfolding blockOf blockFrom tagWord moved
+middle-word w h f x y hx hy =
+    let ex : moved w x (pos 0) ≡ x = omega arith in
+    let ey : moved h y (pos 0) ≡ y = omega arith in
+    rw (ex, ey)

@@ -1,0 +1,5 @@
+pub mod Grid
+pub mod Room
+pub mod Places
+pub mod Kept
+pub mod Across

@@ -1,0 +1,293 @@
+// The passes over a rectangle of pixels: each reads its neighbours' records at clamped places of a lent
+// buffer and writes one record a pixel, row by row. The whole picture and the window round one block are
+// the same passes on other rectangles.
+use grid::Grid;
+use grid::junctions_in;
+use grid::metric_in;
+use grid::store_bytes;
+use grid::store_singles;
+use grid::weights_in;
+use grid::word_in;
+use junction::Junctions;
+use metric::Metric;
+use metric::Weights;
+use place::seven_at;
+use place::three_at;
+use tag::Tags;
+ghost use mathlib.Core.Path.{_≡_};
+ghost use Prim.Native.Nat.{ℕ, _+_, _-_, _*_, _^_, _<_, _≤_};
+ghost use lib.ListN.{length, getD, take, drop};
+ghost use Rattle.picture.specs.Picture.{words};
+ghost use Rattle.picture.specs.Fill.{put};
+ghost use Rattle.metric.specs.Metric.{metrics};
+ghost use Rattle.metric.specs.Weight.{weights};
+ghost use Rattle.junction.specs.Junction.{junctions};
+ghost use Rattle.tag.specs.Tag.{tags};
+ghost use Rattle.field.specs.Grid.{ofMetric, ofWeights, ofJunctions, ofTags, metricField, weightsField, junctionsField, rowOf, rectOf};
+ghost use Rattle.field.specs.Room.{Held, Around, Strip, Inner, Reads, Feeds};
+ghost use Rattle.field.specs.Across.{tagsAcross};
+
+pub mod grid;
+pub mod place;
+
+// The metric of the pixel (x, y).
+pub fn metric_at(picture: &[u32], w: u32, h: u32, x: u32, y: u32) -> Metric
+    requires { ⌜ (x < w) × ((y < h) × (w * h ≤ length (now picture))) ⌝ }
+    ensures { λ m. ⌜ m ≡ metrics w h (words w (now (picture .entry))) x y ⌝ }
+{
+    let xs = three_at(x, w);
+    let ys = three_at(y, h);
+    metric::metric_of(
+        word_in(picture, w, h, xs.at, ys.at),
+        word_in(picture, w, h, xs.before, ys.before),
+        word_in(picture, w, h, xs.at, ys.before),
+        word_in(picture, w, h, xs.after, ys.before),
+        word_in(picture, w, h, xs.after, ys.at),
+    )
+}
+
+// The metrics of row y of the rectangle g, from the element `at` on.
+pub fn metrics_row(picture: &[u32], w: u32, h: u32, g: Grid, y: u32, singles: &mut [f32], at: usize)
+    requires { ⌜ (w * h ≤ length (now picture)) × ((Strip g w h y) × (at + g .cols * 4 ≤ length (now singles))) ⌝ }
+    ensures { λ _. ⌜ now (singles .exit) ≡ put at (rowOf ofMetric g (metrics w h (words w (now (picture .entry)))) y) (now (singles .entry)) ⌝ }
+{
+    let cols = g.cols;
+    let x0 = g.x0;
+    let mut x: u32 = 0;
+    let mut i = at;
+    while x < cols {
+        let m = metric_at(picture, w, h, x0 + x, y);
+        store_singles(singles, i, m.tl, m.t, m.tr, m.r);
+        i += 4;
+        x += 1;
+    }
+}
+
+// The metrics of the rectangle g, at the front of the singles.
+pub fn metrics_rect(picture: &[u32], w: u32, h: u32, g: Grid, singles: &mut [f32])
+    requires { ⌜ (w * h ≤ length (now picture)) × ((Inner g w h) × (Held g (length (now singles)))) ⌝ }
+    ensures { λ _. ⌜ now (singles .exit) ≡ put 0 (rectOf ofMetric g (metrics w h (words w (now (picture .entry))))) (now (singles .entry)) ⌝ }
+{
+    let cols = g.cols;
+    let rows = g.rows;
+    let y0 = g.y0;
+    let mut y: u32 = 0;
+    let mut at: usize = 0;
+    while y < rows {
+        metrics_row(picture, w, h, g, y0 + y, singles, at);
+        at += (cols as usize) * 4;
+        y += 1;
+    }
+}
+
+// The weights of (x, y), from the metrics of the rectangle g.
+pub fn weights_at(s: &[f32], g: Grid, w: u32, h: u32, x: u32, y: u32) -> Weights
+    requires { ⌜ (Around 1 1 g w h x y) × (Held g (length (now s))) ⌝ }
+    ensures { λ q. ⌜ q ≡ weights w h (metricField g (now (s .entry))) x y ⌝ }
+{
+    let xs = three_at(x, w);
+    let ys = three_at(y, h);
+    metric::weights_of(
+        metric_in(s, g, xs.before, ys.before),
+        metric_in(s, g, xs.at, ys.before),
+        metric_in(s, g, xs.before, ys.at),
+        metric_in(s, g, xs.at, ys.at),
+        metric_in(s, g, xs.after, ys.at),
+        metric_in(s, g, xs.before, ys.after),
+        metric_in(s, g, xs.at, ys.after),
+        metric_in(s, g, xs.after, ys.after),
+    )
+}
+
+// The weights of row y of the rectangle v, from the metrics of the rectangle g before `cut`, from the element `at` on.
+pub fn weights_row(
+    singles: &mut [f32],
+    cut: usize,
+    g: Grid,
+    w: u32,
+    h: u32,
+    v: Grid,
+    y: u32,
+    at: usize,
+)
+    requires { ⌜ (Held g cut) × ((cut ≤ at) × ((Reads 1 1 g w h v y) × (at + v .cols * 4 ≤ length (now singles)))) ⌝ }
+    ensures { λ _. ⌜ now (singles .exit) ≡ put at (rowOf ofWeights v (weights w h (metricField g (take cut (now (singles .entry))))) y) (now (singles .entry)) ⌝ }
+{
+    let cols = v.cols;
+    let x0 = v.x0;
+    let mut x: u32 = 0;
+    let mut i = at;
+    while x < cols {
+        let q = weights_at(&singles[..cut], g, w, h, x0 + x, y);
+        store_singles(singles, i, q.w0, q.w1, q.w2, q.w3);
+        i += 4;
+        x += 1;
+    }
+}
+
+// The weights of the rectangle v, from the metrics of the rectangle g before `cut`, from `cut` on.
+pub fn weights_rect(singles: &mut [f32], cut: usize, g: Grid, w: u32, h: u32, v: Grid)
+    requires { ⌜ (Held g cut) × ((Feeds 1 1 g w h v) × (cut + v .rows * (v .cols * 4) ≤ length (now singles))) ⌝ }
+    ensures { λ _. ⌜ now (singles .exit) ≡ put cut (rectOf ofWeights v (weights w h (metricField g (take cut (now (singles .entry)))))) (now (singles .entry)) ⌝ }
+{
+    let cols = v.cols;
+    let rows = v.rows;
+    let y0 = v.y0;
+    let mut y: u32 = 0;
+    let mut at: usize = cut;
+    while y < rows {
+        weights_row(singles, cut, g, w, h, v, y0 + y, at);
+        at += (cols as usize) * 4;
+        y += 1;
+    }
+}
+
+// The junctions of (x, y), from the metrics of the rectangle g and the weights of the rectangle v.
+pub fn junctions_at(
+    m: &[f32],
+    g: Grid,
+    s: &[f32],
+    v: Grid,
+    w: u32,
+    h: u32,
+    x: u32,
+    y: u32,
+) -> Junctions
+    requires { ⌜ (Around 1 1 g w h x y) × ((Held g (length (now m))) × ((Around 1 1 v w h x y) × (Held v (length (now s))))) ⌝ }
+    ensures { λ q. ⌜ q ≡ junctions w h (metricField g (now (m .entry))) (weightsField v (now (s .entry))) x y ⌝ }
+{
+    let xs = three_at(x, w);
+    let ys = three_at(y, h);
+    junction::arbitrate_junctions(
+        metric_in(m, g, xs.before, ys.before),
+        metric_in(m, g, xs.at, ys.before),
+        metric_in(m, g, xs.before, ys.at),
+        metric_in(m, g, xs.at, ys.at),
+        metric_in(m, g, xs.after, ys.at),
+        metric_in(m, g, xs.before, ys.after),
+        metric_in(m, g, xs.at, ys.after),
+        metric_in(m, g, xs.after, ys.after),
+        weights_in(s, v, xs.before, ys.before),
+        weights_in(s, v, xs.at, ys.before),
+        weights_in(s, v, xs.after, ys.before),
+        weights_in(s, v, xs.before, ys.at),
+        weights_in(s, v, xs.at, ys.at),
+        weights_in(s, v, xs.after, ys.at),
+        weights_in(s, v, xs.before, ys.after),
+        weights_in(s, v, xs.at, ys.after),
+        weights_in(s, v, xs.after, ys.after),
+    )
+}
+
+// The junctions of row y of the rectangle q, from metrics and weights, from the element `at` on.
+pub fn junctions_row(
+    m: &[f32],
+    g: Grid,
+    s: &[f32],
+    v: Grid,
+    w: u32,
+    h: u32,
+    q: Grid,
+    y: u32,
+    bytes: &mut [u8],
+    at: usize,
+)
+    requires { ⌜ (Reads 1 1 g w h q y) × ((Held g (length (now m))) × ((Reads 1 1 v w h q y) × ((Held v (length (now s))) × (at + q .cols * 4 ≤ length (now bytes))))) ⌝ }
+    ensures { λ _. ⌜ now (bytes .exit) ≡ put at (rowOf ofJunctions q (junctions w h (metricField g (now (m .entry))) (weightsField v (now (s .entry)))) y) (now (bytes .entry)) ⌝ }
+{
+    let cols = q.cols;
+    let x0 = q.x0;
+    let mut x: u32 = 0;
+    let mut i = at;
+    while x < cols {
+        let j = junctions_at(m, g, s, v, w, h, x0 + x, y);
+        store_bytes(bytes, i, j.n0, j.n1, j.n2, j.n3);
+        i += 4;
+        x += 1;
+    }
+}
+
+// The junctions of the rectangle q, at the front of the bytes.
+pub fn junctions_rect(
+    m: &[f32],
+    g: Grid,
+    s: &[f32],
+    v: Grid,
+    w: u32,
+    h: u32,
+    q: Grid,
+    bytes: &mut [u8],
+)
+    requires { ⌜ (Feeds 1 1 g w h q) × ((Held g (length (now m))) × ((Feeds 1 1 v w h q) × ((Held v (length (now s))) × (Held q (length (now bytes)))))) ⌝ }
+    ensures { λ _. ⌜ now (bytes .exit) ≡ put 0 (rectOf ofJunctions q (junctions w h (metricField g (now (m .entry))) (weightsField v (now (s .entry))))) (now (bytes .entry)) ⌝ }
+{
+    let cols = q.cols;
+    let rows = q.rows;
+    let y0 = q.y0;
+    let mut y: u32 = 0;
+    let mut at: usize = 0;
+    while y < rows {
+        junctions_row(m, g, s, v, w, h, q, y0 + y, bytes, at);
+        at += (cols as usize) * 4;
+        y += 1;
+    }
+}
+
+// The tags of (x, y), from the junctions along its row in the rectangle g and along its column in v.
+pub fn tags_at(j: &[u8], g: Grid, k: &[u8], v: Grid, w: u32, h: u32, x: u32, y: u32) -> Tags
+    requires { ⌜ (Around 3 0 g w h x y) × ((Held g (length (now j))) × ((Around 0 3 v w h x y) × (Held v (length (now k))))) ⌝ }
+    ensures { λ q. ⌜ q ≡ tagsAcross w h (junctionsField g (now (j .entry))) (junctionsField v (now (k .entry))) x y ⌝ }
+{
+    let xs = seven_at(x, w);
+    let ys = seven_at(y, h);
+    tag::trace_edges(
+        junctions_in(j, g, xs.at, ys.at),
+        junctions_in(j, g, xs.before1, ys.at),
+        junctions_in(j, g, xs.before2, ys.at),
+        junctions_in(j, g, xs.before3, ys.at),
+        junctions_in(j, g, xs.after1, ys.at),
+        junctions_in(j, g, xs.after2, ys.at),
+        junctions_in(j, g, xs.after3, ys.at),
+        junctions_in(k, v, xs.at, ys.before1),
+        junctions_in(k, v, xs.at, ys.before2),
+        junctions_in(k, v, xs.at, ys.before3),
+        junctions_in(k, v, xs.at, ys.after1),
+        junctions_in(k, v, xs.at, ys.after2),
+        junctions_in(k, v, xs.at, ys.after3),
+    )
+}
+
+// The tags of row y of the rectangle q, from the junctions of the rectangle g before `cut`, from the element `at` on.
+pub fn tags_row(bytes: &mut [u8], cut: usize, g: Grid, w: u32, h: u32, q: Grid, y: u32, at: usize)
+    requires { ⌜ (Held g cut) × ((cut ≤ at) × ((Reads 3 3 g w h q y) × (at + q .cols * 4 ≤ length (now bytes)))) ⌝ }
+    ensures { λ _. ⌜ now (bytes .exit) ≡ put at (rowOf ofTags q (tags w h (junctionsField g (take cut (now (bytes .entry))))) y) (now (bytes .entry)) ⌝ }
+{
+    let cols = q.cols;
+    let x0 = q.x0;
+    let mut x: u32 = 0;
+    let mut i = at;
+    while x < cols {
+        let j = &bytes[..cut];
+        let t = tags_at(j, g, j, g, w, h, x0 + x, y);
+        store_bytes(bytes, i, t.t0, t.t1, t.t2, t.t3);
+        i += 4;
+        x += 1;
+    }
+}
+
+// The tags of the rectangle q, from the junctions of the rectangle g before `cut`, from `cut` on.
+pub fn tags_rect(bytes: &mut [u8], cut: usize, g: Grid, w: u32, h: u32, q: Grid)
+    requires { ⌜ (Held g cut) × ((Feeds 3 3 g w h q) × (cut + q .rows * (q .cols * 4) ≤ length (now bytes))) ⌝ }
+    ensures { λ _. ⌜ now (bytes .exit) ≡ put cut (rectOf ofTags q (tags w h (junctionsField g (take cut (now (bytes .entry)))))) (now (bytes .entry)) ⌝ }
+{
+    let cols = q.cols;
+    let rows = q.rows;
+    let y0 = q.y0;
+    let mut y: u32 = 0;
+    let mut at: usize = cut;
+    while y < rows {
+        tags_row(bytes, cut, g, w, h, q, y0 + y, at);
+        at += (cols as usize) * 4;
+        y += 1;
+    }
+}

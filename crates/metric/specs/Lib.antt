@@ -1,0 +1,3 @@
+pub mod Distance
+pub mod Metric
+pub mod Weight

@@ -1,0 +1,165 @@
+// Distances, metrics and corner weights: `color_distance`, `unpack_norm`, `compute_metrics`, `corner_weight` and
+// `compute_corner_weights` of scalefx.rs. Each operation is rounded once, in the order in which the source writes it.
+ghost use mathlib.Core.Path.{_≡_};
+ghost use mathlib.Core.Bool.{cond};
+ghost use Prim.Native.Nat.{_%_, _^_, _≤_};
+ghost use lib.Dec.{eqb};
+ghost use lib.Ieee.{neg};
+ghost use Rattle.metric.specs.Distance.{redOf, greenOf, blueOf, norm, distanceOf};
+ghost use Rattle.metric.specs.Metric.{metricOf};
+ghost use Rattle.metric.specs.Weight.{cornerWeightOf, weightsOf};
+
+// A word's channels, each from 0 to 1.
+struct Rgb {
+    r: f32,
+    g: f32,
+    b: f32,
+}
+
+// n as f32 / 255.0, by the pattern of 2^23 + n: the machine's conversion keeps a part of its register,
+// so that each distance would wait for the one before.
+fn norm_of(n: u32) -> f32
+    requires { ⌜ n ≤ 255 ⌝ }
+    ensures { λ r. ⌜ r ≡ norm n ⌝ }
+{
+    (f32::from_bits(0x4B000000 + n) - 8388608.0) / 255.0
+}
+
+fn unpack_norm(c: u32) -> Rgb
+    ensures { λ t. ⌜ (t .r ≡ norm (redOf c)) × (t .g ≡ norm (greenOf c)) × (t .b ≡ norm (blueOf c)) ⌝ }
+{
+    Rgb {
+        r: norm_of((c >> 16) & 0xFF),
+        g: norm_of((c >> 8) & 0xFF),
+        b: norm_of(c & 0xFF),
+    }
+}
+
+// The source's `color_distance`.
+fn root_distance(p: u32, q: u32) -> f32
+    ensures { λ r. ⌜ r ≡ distanceOf p q ⌝ }
+{
+    let a = unpack_norm(p);
+    let b = unpack_norm(q);
+    let mean_r = 0.5 * (a.r + b.r);
+    let rd = a.r - b.r;
+    let gd = a.g - b.g;
+    let bd = a.b - b.b;
+    let weighted = (2.0 + mean_r) * rd * rd + 4.0 * gd * gd + (3.0 - mean_r) * bd * bd;
+    single::sqrt(single::max(weighted, 0.0)) / 3.0
+}
+
+// The low 24 bits agree.
+fn same(p: u32, q: u32) -> bool
+    ensures { λ r. ⌜ r ≡ eqb (p % 2 ^ 24) (q % 2 ^ 24) ⌝ }
+{
+    (p & 0xFFFFFF) == (q & 0xFFFFFF)
+}
+
+// Most neighbours on a page are equal, and need no root.
+pub fn color_distance(p: u32, q: u32) -> f32
+    ensures { λ r. ⌜ r ≡ distanceOf p q ⌝ }
+{
+    if same(p, q) {
+        return 0.0;
+    }
+    root_distance(p, q)
+}
+
+// A pixel's metric: its distances to top-left, top, top-right and right.
+pub struct Metric {
+    pub tl: f32,
+    pub t: f32,
+    pub tr: f32,
+    pub r: f32,
+}
+
+// The metric of the pixel c, beside its neighbours.
+pub fn metric_of(c: u32, tl: u32, t: u32, tr: u32, r: u32) -> Metric
+    ensures { λ m. ⌜ m ≡ metricOf c tl t tr r ⌝ }
+{
+    // On plain ground one test serves for all four.
+    if same(c, tl) & same(c, t) & same(c, tr) & same(c, r) {
+        return Metric {
+            tl: 0.0,
+            t: 0.0,
+            tr: 0.0,
+            r: 0.0,
+        };
+    }
+    Metric {
+        tl: color_distance(c, tl),
+        t: color_distance(c, t),
+        tr: color_distance(c, tr),
+        r: color_distance(c, r),
+    }
+}
+
+// The source's [f32; 2].
+pub struct Pair(pub f32, pub f32);
+
+const CLARITY_THRESHOLD: f32 = 0.50;
+
+// The bias, turned where the second axis is the stronger.
+fn stronger_axis(first: bool, bias: f32) -> f32
+    ensures { λ r. ⌜ r ≡ cond first bias (neg bias) ⌝ }
+{
+    if first { bias } else { -bias }
+}
+
+pub fn corner_weight(edge_dist: f32, primary: Pair, secondary: Pair) -> f32
+    ensures { λ r. ⌜ r ≡ cornerWeightOf «edge_dist» (primary .0) (primary .1) (secondary .0) (secondary .1) ⌝ }
+{
+    let proximity = single::max(CLARITY_THRESHOLD - edge_dist, 0.0) / CLARITY_THRESHOLD;
+    let bias = primary.0 - primary.1;
+    let first = single::min(primary.0, secondary.0) + primary.0
+        > single::min(primary.1, secondary.1) + primary.1;
+    let direction = single::clamp(1.0 - edge_dist + stronger_axis(first, bias), 0.0, 1.0);
+    proximity * direction * primary.0 * primary.1
+}
+
+// A pixel's weights: its corners top-left, top-right, bottom-right and bottom-left.
+pub struct Weights {
+    pub w0: f32,
+    pub w1: f32,
+    pub w2: f32,
+    pub w3: f32,
+}
+
+// The weights of a pixel, of the metrics around it.
+pub fn weights_of(
+    tl: Metric,
+    t: Metric,
+    l: Metric,
+    c: Metric,
+    r: Metric,
+    bl: Metric,
+    b: Metric,
+    br: Metric,
+) -> Weights
+    ensures { λ q. ⌜ q ≡ weightsOf tl t l c r bl b br ⌝ }
+{
+    // On plain ground all distances are 0, and a weight is the product of its primary ones, whatever their signs.
+    if (l.tr == 0.0)
+        & (l.r == 0.0)
+        & (c.t == 0.0)
+        & (c.r == 0.0)
+        & (r.tl == 0.0)
+        & (b.tl == 0.0)
+        & (b.t == 0.0)
+        & (b.tr == 0.0)
+    {
+        return Weights {
+            w0: l.r * c.t,
+            w1: c.r * c.t,
+            w2: c.r * b.t,
+            w3: l.r * b.t,
+        };
+    }
+    Weights {
+        w0: corner_weight(l.tr, Pair(l.r, c.t), Pair(tl.r, l.t)),
+        w1: corner_weight(r.tl, Pair(c.r, c.t), Pair(t.r, r.t)),
+        w2: corner_weight(b.tr, Pair(c.r, b.t), Pair(b.r, br.t)),
+        w3: corner_weight(b.tl, Pair(l.r, b.t), Pair(bl.r, bl.t)),
+    }
+}

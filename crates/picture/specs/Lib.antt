@@ -1,0 +1,5 @@
+pub mod Picture
+pub mod Local
+pub mod Pipeline
+pub mod Fill
+pub mod Refusal

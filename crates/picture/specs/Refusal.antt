@@ -1,0 +1,46 @@
+-- The paper's refusal numbers, by name. Definitions only; `src/refusal.rt` has the same names for the code, and `numbers` there is proved to be `all`.
+use mathlib.Core.List.{List, [], _∷_}
+use Prim.Native.Nat.{ℕ}
+
+-- not refused
+abbrev pub none : ℕ
+none = 0
+
+-- a side past its limit
+abbrev pub side : ℕ
+side = 1
+
+-- the picture buffer is short
+abbrev pub picture : ℕ
+picture = 2
+
+-- the output buffer is short
+abbrev pub output : ℕ
+output = 3
+
+-- singles, bytes, middle or marks are short
+abbrev pub scratch : ℕ
+scratch = 4
+
+-- the position lies outside the picture
+abbrev pub outside : ℕ
+outside = 5
+
+-- the root's operand has its sign bit set, is infinite or is not a number
+abbrev pub operand : ℕ
+operand = 6
+
+-- the block is stale
+abbrev pub stale : ℕ
+stale = 7
+
+-- a file under 12 bytes, its last four bytes wrong, back wrong or past the file
+abbrev pub trailer : ℕ
+trailer = 8
+
+-- a file longer than the program takes
+abbrev pub long : ℕ
+long = 9
+
+abbrev pub all : List ℕ
+all = none ∷ side ∷ picture ∷ output ∷ scratch ∷ outside ∷ operand ∷ stale ∷ trailer ∷ long ∷ []

@@ -1,0 +1,42 @@
+// The paper's refusal numbers, by name; `specs/Refusal.antt` has the same names for the definitions.
+ghost use mathlib.Core.Path.{_≡_};
+ghost use Rattle.picture.specs.Refusal.{all};
+
+// Not refused.
+pub const NONE: u32 = 0;
+// A side past its limit.
+pub const SIDE: u32 = 1;
+// The picture buffer is short.
+pub const PICTURE: u32 = 2;
+// The output buffer is short.
+pub const OUTPUT: u32 = 3;
+// Singles, bytes, middle or marks are short.
+pub const SCRATCH: u32 = 4;
+// The position lies outside the picture.
+pub const OUTSIDE: u32 = 5;
+// The root's operand has its sign bit set, is infinite or is not a number.
+pub const OPERAND: u32 = 6;
+// The block is stale.
+pub const STALE: u32 = 7;
+// A file under 12 bytes, its last four bytes wrong, back wrong or past the file.
+pub const TRAILER: u32 = 8;
+// A file longer than the program takes.
+pub const LONG: u32 = 9;
+
+// The names here and in the definitions are the same numbers.
+pub fn numbers() -> [u32; 10]
+    ensures { λ r. ⌜ r ≡ all ⌝ }
+{
+    [
+        NONE,
+        SIDE,
+        PICTURE,
+        OUTPUT,
+        SCRATCH,
+        OUTSIDE,
+        OPERAND,
+        STALE,
+        TRAILER,
+        LONG,
+    ]
+}

@@ -1,0 +1,11 @@
+pub mod Lists
+pub mod Places
+pub mod Good
+pub mod Held
+pub mod Demand3
+pub mod Three
+pub mod Theorem
+pub mod Words
+pub mod Loops
+pub mod Box
+pub mod Ends

@@ -1,0 +1,178 @@
+// A session: a picture that is painted word by word, and its enlarged output, in which a refresh redraws the blocks that
+// a paint made stale. `specs/Calls.antt` says what each call leaves and answers, `specs/Machine.antt` is the plain machine,
+// `specs/Demand3.antt` says what holds of every list of calls, and `proofs/Theorem.antt` proves it.
+use draw::draw_first;
+use marks::count_stale;
+use marks::mark_box;
+use marks::mark_run;
+use output::fill_words;
+use output::read_block;
+use refuse::refuse_all;
+use refuse::refuse_paint;
+use refuse::refuse_show;
+ghost use Rattle.session.specs.Calls.{Opens, Paints, Refreshes, Shows};
+ghost use Rattle.session.specs.Three.{screen3};
+
+mod draw;
+mod marks;
+mod output;
+mod refuse;
+
+// The header: the picture's width and height.
+pub struct Session {
+    pub w: u32,
+    pub h: u32,
+}
+
+pub struct Opened {
+    pub refusal: u32,
+    pub session: Session,
+    pub stale: u32,
+}
+
+// changed: 1 where the word was stored, 0 where it was there already.
+pub struct Painted {
+    pub refusal: u32,
+    pub changed: u32,
+    pub stale: u32,
+}
+
+pub struct Refreshed {
+    pub refusal: u32,
+    pub drawn: u32,
+    pub left: u32,
+}
+
+pub struct Shown {
+    pub refusal: u32,
+    pub words: [u32; 9],
+}
+
+impl Session {
+    // The limit of w and of h.
+    pub const SIDE: u32 = 2048;
+
+    pub fn open(w: u32, h: u32, picture: &[u32], output: &mut [u32], marks: &mut [u8]) -> Opened
+        ensures { λ r. ⌜ Opens screen3 w h (now (picture .entry)) (now (output .entry)) (now (marks .entry))
+            (record {
+              output = now (output .exit);
+              marks = now (marks .exit);
+              refusal = r .refusal;
+              width = r .session .w;
+              height = r .session .h;
+              stale = r .stale;
+            }) ⌝ }
+    {
+        let refusal = refuse_all(w, h, picture.len(), output.len(), marks.len());
+        if refusal != 0 {
+            return Opened {
+                refusal,
+                session: Session { w: 0, h: 0 },
+                stale: 0,
+            };
+        }
+        let n = (w as usize) * (h as usize);
+        fill_words(output, 9 * n);
+        mark_run(marks, 0, n);
+        Opened {
+            refusal: 0,
+            session: Session { w, h },
+            stale: w * h,
+        }
+    }
+
+    // The word stored at (column, row), and the blocks that may depend on it made stale.
+    pub fn paint(
+        self,
+        picture: &mut [u32],
+        marks: &mut [u8],
+        column: u32,
+        row: u32,
+        word: u32,
+    ) -> Painted
+        ensures { λ r. ⌜ Paints screen3 (self .w) (self .h) (now (picture .entry)) (now (marks .entry)) column row word
+            (record {
+              picture = now (picture .exit);
+              marks = now (marks .exit);
+              refusal = r .refusal;
+              changed = r .changed;
+              stale = r .stale;
+            }) ⌝ }
+    {
+        let w = self.w;
+        let h = self.h;
+        let refusal = refuse_paint(w, h, picture.len(), marks.len(), column, row);
+        if refusal != 0 {
+            return Painted {
+                refusal,
+                changed: 0,
+                stale: 0,
+            };
+        }
+        let n = (w as usize) * (h as usize);
+        let at = (row as usize) * (w as usize) + (column as usize);
+        if word == picture[at] {
+            return Painted {
+                refusal: 0,
+                changed: 0,
+                stale: count_stale(marks, 0, n),
+            };
+        }
+        picture[at] = word;
+        mark_box(marks, w, h, column, row);
+        Painted {
+            refusal: 0,
+            changed: 1,
+            stale: count_stale(marks, 0, n),
+        }
+    }
+
+    // The first n stale blocks in row order redrawn from the picture.
+    pub fn refresh(self, picture: &[u32], output: &mut [u32], marks: &mut [u8], n: u32) -> Refreshed
+        ensures { λ r. ⌜ Refreshes screen3 (self .w) (self .h) (now (picture .entry)) (now (output .entry)) (now (marks .entry)) n
+            (record {
+              output = now (output .exit);
+              marks = now (marks .exit);
+              refusal = r .refusal;
+              drawn = r .drawn;
+              left = r .left;
+            }) ⌝ }
+    {
+        let w = self.w;
+        let h = self.h;
+        let refusal = refuse_all(w, h, picture.len(), output.len(), marks.len());
+        if refusal != 0 {
+            return Refreshed {
+                refusal,
+                drawn: 0,
+                left: 0,
+            };
+        }
+        let drawn = draw_first(picture, output, marks, w, h, n);
+        Refreshed {
+            refusal: 0,
+            drawn,
+            left: count_stale(marks, 0, (w as usize) * (h as usize)),
+        }
+    }
+
+    // The words of block (bx, by).
+    pub fn show(self, output: &[u32], marks: &[u8], bx: u32, by: u32) -> Shown
+        ensures { λ r. ⌜ Shows screen3 (self .w) (self .h) (now (output .entry)) (now (marks .entry)) bx by
+            (record { refusal = r .refusal; words = r .words }) ⌝ }
+    {
+        let w = self.w;
+        let h = self.h;
+        let refusal = refuse_show(w, h, output.len(), marks, bx, by);
+        if refusal != 0 {
+            return Shown {
+                refusal,
+                words: [0; 9],
+            };
+        }
+        Shown {
+            refusal: 0,
+            words: read_block(output, w, h, bx, by),
+        }
+    }
+}

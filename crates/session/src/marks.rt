@@ -1,0 +1,103 @@
+// The marks: a byte for each block, 0 for not stale and any other for stale.
+use field::place::least;
+use field::place::less;
+ghost use mathlib.Core.Path.{_≡_};
+ghost use mathlib.Core.List.{[], _∷_};
+ghost use Prim.Native.Nat.{_+_, _*_, _<_, _≤_, min};
+ghost use lib.ListN.{length, getD};
+ghost use Rattle.session.specs.Lists.{count, stamp};
+ghost use Rattle.session.specs.Machine.{names};
+ghost use Rattle.session.specs.Calls.{isStale};
+ghost use Rattle.session.specs.Steps.{run, staleIn, StaleRun};
+ghost use Rattle.session.specs.Three.{screen3};
+
+// 1 for a stale block, 0 for another.
+fn one_if_stale(mark: u8) -> u8
+    ensures { λ r. ⌜ r ≡ count (isStale mark ∷ []) ⌝ }
+{
+    if mark != 0 {
+        return 1;
+    }
+    0
+}
+
+// How many of the marks lo to hi - 1 are stale, of at most 240: a byte holds the count, so that the compiler takes many
+// marks at a time.
+fn count_run(marks: &[u8], lo: usize, hi: usize) -> u8
+    requires { ⌜ (lo ≤ hi) × ((hi ≤ lo + 240) × (hi ≤ length (now marks))) ⌝ }
+    ensures { λ r. ⌜ r ≡ count (staleIn lo hi (now (marks .entry))) ⌝ }
+{
+    let mut c: u8 = 0;
+    let mut i = lo;
+    while i < hi {
+        c += one_if_stale(marks[i]);
+        i += 1;
+    }
+    c
+}
+
+// Where the run of marks that is counted from i ends.
+fn run_end(i: usize, hi: usize) -> usize
+    requires { ⌜ i ≤ hi ⌝ }
+    ensures { λ r. ⌜ r ≡ min (i + 240) hi ⌝ }
+{
+    if hi - i < 240 {
+        return hi;
+    }
+    i + 240
+}
+
+// How many of the marks lo to hi - 1 are stale.
+pub fn count_stale(marks: &[u8], lo: usize, hi: usize) -> u32
+    requires { ⌜ (lo ≤ hi) × ((hi ≤ 4194304) × (hi ≤ length (now marks))) ⌝ }
+    ensures { λ r. ⌜ r ≡ count (staleIn lo hi (now (marks .entry))) ⌝ }
+{
+    let mut c: u32 = 0;
+    let mut i = lo;
+    while i < hi {
+        let e = run_end(i, hi);
+        c += count_run(marks, i, e) as u32;
+        i = e;
+    }
+    c
+}
+
+// How many stale marks stand side by side from i on, itself one of them, as far as `most`.
+pub fn stale_run(marks: &[u8], i: usize, most: u32) -> u32
+    requires { ⌜ (0 < most) × ((i + most ≤ length (now marks)) × (getD (now marks) i 0 ≡ 0 → ⊥)) ⌝ }
+    ensures { λ r. ⌜ StaleRun i most (now (marks .entry)) r ⌝ }
+{
+    let mut k: u32 = 1;
+    while k < most && marks[i + (k as usize)] != 0 {
+        k += 1;
+    }
+    k
+}
+
+// Marks lo to hi - 1 made stale.
+pub fn mark_run(marks: &mut [u8], lo: usize, hi: usize)
+    requires { ⌜ (lo ≤ hi) × (hi ≤ length (now marks)) ⌝ }
+    ensures { λ r. ⌜ now (marks .exit) ≡ stamp (run lo hi) 1 (now (marks .entry)) ⌝ }
+{
+    let mut i: usize = lo;
+    while i < hi {
+        marks[i] = 1;
+        i += 1;
+    }
+}
+
+// The blocks that a changing paint at (column, row) names made stale, row by row.
+pub fn mark_box(marks: &mut [u8], w: u32, h: u32, column: u32, row: u32)
+    requires { ⌜ (w ≤ 2048) × ((h ≤ 2048) × ((column < w) × ((row < h) × (w * h ≤ length (now marks))))) ⌝ }
+    ensures { λ r. ⌜ now (marks .exit) ≡ stamp (names screen3 w h column row) 1 (now (marks .entry)) ⌝ }
+{
+    let width = w as usize;
+    let x0 = less(column, 6) as usize;
+    let x1 = least(column + 7, w) as usize;
+    let y1 = least(row + 7, h) as usize;
+    let mut y = less(row, 5) as usize;
+    while y < y1 {
+        mark_run(marks, y * width + x0, y * width + x1);
+        y += 1;
+    }
+}

@@ -1,0 +1,3 @@
+pub mod LaneLaws
+pub mod Same
+pub mod Exits

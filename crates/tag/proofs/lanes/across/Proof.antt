@@ -1,0 +1,16 @@
+use mathlib.Core.Path.{refl}
+use native.Mathlib.Omega.{arith}
+use lib.Bits.{and-le-r}
+use Rattle.tag.specs.Lanes.{across}
+use Rattle.tag.proofs.lanes.across.Statement.{statement}
+use Rattle.tag.proofs.lanes.across.Tie as tie
+
+mul-result : tie.Need-mul-result
+mul-result c = omega (arith, and-le-r (c .args .x) 0x00ff00ff)
+
+returns : tie.Need-returns
+unfolding across
+returns c = refl
+
+pub across-spec : {M : Type 1} → statement M
+across-spec = tie.close (tie.spec mul-result returns)

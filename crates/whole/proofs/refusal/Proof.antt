@@ -1,0 +1,22 @@
+-- `whole::refusal` meets its contract: each return by the tests that led there. Assumes nothing.
+use borrow.Author.Tests.{lt-ltb, le-ltb}
+use Rattle.whole.proofs.refusal.Statement.{statement}
+use Rattle.whole.proofs.refusal.Tie as tie
+
+returns : tie.Need-returns
+returns c = simp (c .if1 .taken)
+
+returns-2 : tie.Need-returns-2
+returns-2 c = simp (c .before .if1 .left, lt-ltb _ _ (c .if2 .taken))
+
+returns-3 : tie.Need-returns-3
+returns-3 c = simp (c .before .before .if1 .left, le-ltb _ _ (c .before .if2 .left), lt-ltb _ _ (c .if3 .taken))
+
+returns-4 : tie.Need-returns-4
+returns-4 c = simp (c .before .before .before .if1 .left, le-ltb _ _ (c .before .before .if2 .left), le-ltb _ _ (c .before .if3 .left), c .if4 .taken)
+
+returns-5 : tie.Need-returns-5
+returns-5 c = simp (c .before .before .before .if1 .left, le-ltb _ _ (c .before .before .if2 .left), le-ltb _ _ (c .before .if3 .left), c .if4 .left)
+
+pub refusal-spec : {M : Type 1} → statement M
+refusal-spec = tie.close (tie.spec returns returns-2 returns-3 returns-4 returns-5)

@@ -1,0 +1,71 @@
+-- `whole::scale` meets its contract. Assumes nothing.
+use native.Mathlib.Omega.{arith}
+use mathlib.Core.Path.{_≡_, sym, _∙_, ap}
+use Prim.Native.Nat.{ℕ, _*_}
+use lib.Dec.{lit≤}
+use lib.ListN.{length}
+use Rattle.whole.specs.Calls.{refusalOf, refusal3}
+use Rattle.whole.proofs.Sizes.{within-small, refusal-within, accepted, kept, written}
+use borrow.Author.Needs.{needs}
+use Rattle.whole.proofs.scale.Statement.{statement}
+use Rattle.whole.proofs.scale.Tie as tie
+
+words-of-requires : tie.Need-words-of-requires
+words-of-requires c κs = lit≤ tt
+
+mul-refusal : tie.Need-mul-refusal
+mul-refusal c = omega (arith, within-small 2048 (c .before .before .before .before .before .args .w) (c .before .before .before .before .before .args .h) (c .words-of .result) (lit≤ tt) (c .words-of .ensures))
+
+mul-refusal-2 : tie.Need-mul-refusal-2
+mul-refusal-2 c = omega (arith, within-small 2048 (c .before .before .before .before .before .args .w) (c .before .before .before .before .before .args .h) (c .words-of .result) (lit≤ tt) (c .words-of .ensures))
+
+refusal-requires : tie.Need-refusal-requires
+refusal-requires c κs = tt
+
+-- the number is that of the definition
+number : (c : tie.After-refusal) → c .refusal .result ≡ refusal3 (c .before .before .before .before .before .before .args .w) (c .before .before .before .before .before .before .args .h) (c .before .before .before .before .before .before .args .picture .now) (c .before .before .before .before .before .before .args .output .now) (c .before .before .before .before .before .before .args .singles .now) (c .before .before .before .before .before .before .args .bytes .now)
+number c =
+    let a = c .before .before .before .before .before .before .args in
+    c .refusal .ensures
+    ∙ ap (λ (n : ℕ). refusalOf 2048 (a .w) (a .h) n (9 * n) 0 (8 * n) (length (a .picture .now)) (length (a .output .now)) 0 (length (a .singles .now)) (length (a .bytes .now))) (c .before .words-of .ensures)
+    ∙ refusal-within 2048 (a .w) (a .h) (λ n. 9 * n) (λ n. 0) (λ n. 8 * n) (length (a .picture .now)) (length (a .output .now)) 0 (length (a .singles .now)) (length (a .bytes .now))
+
+returns : tie.Need-returns
+returns c =
+    record { refusal-now = number (c .before); output-now = kept _ _ _ (c .if1 .taken); singles-now = kept _ _ _ (c .if1 .taken); bytes-now = kept _ _ _ (c .if1 .taken) }
+
+enlarge-requires : tie.Need-enlarge-requires
+enlarge-requires c κs =
+    let a = c .before .before .before .before .before .before .before .before .before .before .args in
+    let k = accepted 2048 (a .w) (a .h) _ _ 0 _ _ _ 0 _ _ (sym (number (c .before .before .before .before)) ∙ c .before .before .before .if1 .left) in
+    record { wide = k .wide; high = k .high; picture = k .picture-fits; output = k .output-fits; singles = k .singles-fit; bytes = k .bytes-fit }
+
+same-length : tie.Need-same-length
+same-length c = search needs
+
+same-length-2 : tie.Need-same-length-2
+same-length-2 c = search needs
+
+same-length-3 : tie.Need-same-length-3
+same-length-3 c = search needs
+
+returns-2 : tie.Need-returns-2
+returns-2 c =
+    let z = c .before .before .before .before .before .before .before .before .before .before .if1 .left in
+    let e = c .before .before .before .before .before .before .enlarge .ensures in
+    record { refusal-now = number (c .before .before .before .before .before .before .before .before .before .before .before); output-now = written _ _ _ _ z (e .output-is); singles-now = written _ _ _ _ z (e .singles-are); bytes-now = written _ _ _ _ z (e .bytes-are) }
+
+pub scale-spec : {M : Type 1} → statement M
+scale-spec =
+    tie.close
+    (tie.spec
+    words-of-requires
+    mul-refusal
+    mul-refusal-2
+    refusal-requires
+    returns
+    enlarge-requires
+    same-length
+    same-length-2
+    same-length-3
+    returns-2)

@@ -1,0 +1,161 @@
+-- `whole::scale9x` meets its contract: the second pass reads the whole first result, and covers what the first left in singles and bytes.
+-- Assumes nothing.
+use native.Mathlib.Omega.{arith}
+use mathlib.Core.Path.{_≡_, sym, _∙_, ap}
+use mathlib.Core.List.{List}
+use Prim.Native.Nat.{ℕ, _*_}
+use lib.Dec.{lit≤}
+use lib.ListN.{length, take}
+use lib.Seq.{length-take-le}
+use Rattle.picture.specs.Picture.{words}
+use Rattle.picture.specs.Fill.{put, put-over, take-front}
+use Rattle.whole.specs.Whole.{scaleOf, singlesOf, bytesOf}
+use Rattle.whole.specs.Laws.{scale-length, singles-length, bytes-length}
+use Rattle.whole.specs.Calls.{refusalOf, refusal9}
+use Rattle.whole.proofs.Sizes.{within-small, within-is, nine-words, refusal-within, Accepted, accepted, kept, written}
+use borrow.Author.Needs.{needs}
+use Rattle.whole.proofs.scale9x.Statement.{statement}
+use Rattle.whole.proofs.scale9x.Tie as tie
+
+words-of-requires : tie.Need-words-of-requires
+words-of-requires c κs = lit≤ tt
+
+mul-refusal : tie.Need-mul-refusal
+mul-refusal c = omega (arith, within-small 682 (c .before .before .before .before .before .before .args .w) (c .before .before .before .before .before .before .args .h) (c .words-of .result) (lit≤ tt) (c .words-of .ensures))
+
+mul-refusal-2 : tie.Need-mul-refusal-2
+mul-refusal-2 c = omega (arith, within-small 682 (c .before .before .before .before .before .before .args .w) (c .before .before .before .before .before .before .args .h) (c .words-of .result) (lit≤ tt) (c .words-of .ensures))
+
+mul-refusal-3 : tie.Need-mul-refusal-3
+mul-refusal-3 c = omega (arith, within-small 682 (c .before .before .before .before .before .before .args .w) (c .before .before .before .before .before .before .args .h) (c .words-of .result) (lit≤ tt) (c .words-of .ensures))
+
+refusal-requires : tie.Need-refusal-requires
+refusal-requires c κs = tt
+
+-- the number is that of the definition
+number : (c : tie.After-refusal) → c .refusal .result ≡ refusal9 (c .before .before .before .before .before .before .before .args .w) (c .before .before .before .before .before .before .before .args .h) (c .before .before .before .before .before .before .before .args .picture .now) (c .before .before .before .before .before .before .before .args .output .now) (c .before .before .before .before .before .before .before .args .middle .now) (c .before .before .before .before .before .before .before .args .singles .now) (c .before .before .before .before .before .before .before .args .bytes .now)
+number c =
+    let a = c .before .before .before .before .before .before .before .args in
+    c .refusal .ensures
+    ∙ ap (λ (n : ℕ). refusalOf 682 (a .w) (a .h) n (81 * n) (9 * n) (72 * n) (length (a .picture .now)) (length (a .output .now)) (length (a .middle .now)) (length (a .singles .now)) (length (a .bytes .now))) (c .before .words-of .ensures)
+    ∙ refusal-within 682 (a .w) (a .h) (λ n. 81 * n) (λ n. 9 * n) (λ n. 72 * n) (length (a .picture .now)) (length (a .output .now)) (length (a .middle .now)) (length (a .singles .now)) (length (a .bytes .now))
+
+-- where the number is 0 the sides are within the limit and the buffers long enough
+fits : (c : tie.Else1) → let a = c .before .before .before .before .before .before .before .before .args in
+    Accepted 682 (a .w) (a .h) (a .w * a .h) (81 * (a .w * a .h)) (9 * (a .w * a .h)) (72 * (a .w * a .h)) (length (a .picture .now)) (length (a .output .now)) (length (a .middle .now)) (length (a .singles .now)) (length (a .bytes .now))
+fits c = let a = c .before .before .before .before .before .before .before .before .args in accepted 682 (a .w) (a .h) _ _ _ _ _ _ _ _ _ (sym (number (c .before)) ∙ c .if1 .left)
+
+-- and the counted words are those of the picture
+counted : (c : tie.Else1) → c .before .before .words-of .result ≡ c .before .before .before .before .before .before .before .before .args .w * c .before .before .before .before .before .before .before .before .args .h
+counted c = c .before .before .words-of .ensures ∙ within-is 682 (c .before .before .before .before .before .before .before .before .args .w) (c .before .before .before .before .before .before .before .before .args .h) (fits c .wide) (fits c .high)
+
+returns : tie.Need-returns
+returns c =
+    let r = c .if1 .taken in
+    record { refusal-now = number (c .before); middle-now = kept _ _ _ r; output-now = kept _ _ _ r; singles-now = kept _ _ _ r; bytes-now = kept _ _ _ r }
+
+enlarge-requires : tie.Need-enlarge-requires
+enlarge-requires c κs =
+    let k = fits (c .before .before .before) in
+    record { wide = omega (arith, k .wide); high = omega (arith, k .high); picture = k .picture-fits; output = k .middle-fits; singles = omega (arith, k .singles-fit); bytes = omega (arith, k .bytes-fit) }
+
+mul-enlarge : tie.Need-mul-enlarge
+mul-enlarge c = omega (arith, fits (c .before .before .before .before .before .before .before .before .before .before) .wide)
+
+mul-enlarge-2 : tie.Need-mul-enlarge-2
+mul-enlarge-2 c = omega (arith, fits (c .before .before .before .before .before .before .before .before .before .before) .high)
+
+mul-enlarge-3 : tie.Need-mul-enlarge-3
+mul-enlarge-3 c = omega (arith, fits (c .before .before .before .before .before .before .before .before .before .before) .middle-fits, counted (c .before .before .before .before .before .before .before .before .before .before))
+
+slice-reshare-prefix-enlarge : tie.Need-slice-reshare-prefix-enlarge
+slice-reshare-prefix-enlarge c = omega (arith, fits (c .before .before .before .before .before .before .before .before .before .before) .middle-fits, counted (c .before .before .before .before .before .before .before .before .before .before), c .before .before .before .before .before .before .enlarge .kept .1 .1 .1 .0)
+
+slice-aggregate-enlarge : tie.Need-slice-aggregate-enlarge
+slice-aggregate-enlarge c = sym (length-take-le _ _ (omega (arith, fits (c .before .before .before .before .before .before .before .before .before .before .before) .middle-fits, counted (c .before .before .before .before .before .before .before .before .before .before .before), c .before .before .before .before .before .before .before .enlarge .kept .1 .1 .1 .0)))
+
+enlarge-requires-2 : tie.Need-enlarge-requires-2
+enlarge-requires-2 c κs =
+    let k = fits (c .before .before .before .before .before .before .before .before .before .before .before .before .before .before) in
+    let n = counted (c .before .before .before .before .before .before .before .before .before .before .before .before .before .before) in
+    let q = nine-words (c .before .before .before .before .before .before .before .before .before .before .before .before .before .before .before .before .before .before .before .before .before .before .args .w) (c .before .before .before .before .before .before .before .before .before .before .before .before .before .before .before .before .before .before .before .before .before .before .args .h) in
+    let m = length-take-le (9 * c .before .before .before .before .before .before .before .before .before .before .before .before .before .before .before .before .words-of .result) (c .before .before .before .before .before .before .before .before .before .before .enlarge .last .1 .1 .1 .0) (omega (arith, k .middle-fits, c .before .before .before .before .before .before .before .before .before .before .enlarge .kept .1 .1 .1 .0)) in
+    record {
+      wide = omega (arith, k .wide);
+      high = omega (arith, k .high);
+      picture = omega arith;
+      output = omega (arith, k .output-fits);
+      singles = omega (arith, k .singles-fit, c .before .before .before .before .before .before .before .before .before .before .enlarge .kept .1 .1 .1 .1 .0);
+      bytes = omega (arith, k .bytes-fit, c .before .before .before .before .before .before .before .before .before .before .enlarge .kept .1 .1 .1 .1 .1 .0);
+    }
+
+same-length : tie.Need-same-length
+same-length c = search needs
+
+same-length-2 : tie.Need-same-length-2
+same-length-2 c = search needs
+
+same-length-3 : tie.Need-same-length-3
+same-length-3 c = search needs
+
+same-length-4 : tie.Need-same-length-4
+same-length-4 c = search needs
+
+returns-2 : tie.Need-returns-2
+returns-2 c =
+    let a = c .before .before .before .before .before .before .before .before .before .before .before .before .before .before .before .before .before .before .before .before .before .before .before .before .before .before .before .before .before .args in
+    let z = c .before .before .before .before .before .before .before .before .before .before .before .before .before .before .before .before .before .before .before .before .before .if1 .left in
+    let k = fits (c .before .before .before .before .before .before .before .before .before .before .before .before .before .before .before .before .before .before .before .before .before) in
+    let n = c .before .before .before .before .before .before .before .before .before .before .before .before .before .before .before .before .before .before .before .before .before .before .before .words-of .result in
+    let e = c .before .before .before .before .before .before .before .before .before .before .before .before .before .before .before .before .before .enlarge .ensures in
+    let d = c .before .before .before .before .before .before .enlarge2 .ensures in
+    let f = words (a .w) (a .picture .now) in
+    let m = scaleOf (a .w) (a .h) f in
+    let g = words (3 * a .w) m in
+    let u = 3 * a .w in
+    let v = 3 * a .h in
+    let nine : length m ≡ 9 * n = scale-length (a .w) (a .h) f ∙ ap (λ (i : ℕ). 9 * i) (sym (counted (c .before .before .before .before .before .before .before .before .before .before .before .before .before .before .before .before .before .before .before .before .before))) in
+    let same : take (9 * n) (c .before .before .before .before .before .before .before .before .before .before .before .before .before .before .before .before .before .enlarge .last .1 .1 .1 .0) ≡ m = ap (take (9 * n)) (e .output-is) ∙ take-front m (a .middle .now) (9 * n) nine in
+    let q = nine-words (a .w) (a .h) in
+    let s = singles-length (a .w) (a .h) f in
+    let s′ = singles-length u v g in
+    let t = bytes-length (a .w) (a .h) f in
+    let t′ = bytes-length u v g in
+    record {
+      refusal-now = number (c .before .before .before .before .before .before .before .before .before .before .before .before .before .before .before .before .before .before .before .before .before .before);
+      middle-now = written _ _ _ _ z (e .output-is);
+      output-now = written _ _ _ _ z (d .output-is ∙ ap (λ (l : List ℕ). put 0 (scaleOf u v (words u l)) (a .output .now)) same);
+      singles-now =
+          written _ _ _ _ z
+          (d .singles-are ∙ ap (λ (l : List ℕ). put 0 (singlesOf u v (words u l)) (c .before .before .before .before .before .before .before .before .before .before .before .before .before .before .before .before .before .enlarge .last .1 .1 .1 .1 .0)) same
+          ∙ ap (put 0 (singlesOf u v g)) (e .singles-are)
+          ∙ put-over (singlesOf (a .w) (a .h) f) (singlesOf u v g) (a .singles .now) (omega arith) (omega (arith, k .singles-fit)));
+      bytes-now =
+          written _ _ _ _ z
+          (d .bytes-are ∙ ap (λ (l : List ℕ). put 0 (bytesOf u v (words u l)) (c .before .before .before .before .before .before .before .before .before .before .before .before .before .before .before .before .before .enlarge .last .1 .1 .1 .1 .1 .0)) same
+          ∙ ap (put 0 (bytesOf u v g)) (e .bytes-are)
+          ∙ put-over (bytesOf (a .w) (a .h) f) (bytesOf u v g) (a .bytes .now) (omega arith) (omega (arith, k .bytes-fit)));
+    }
+
+pub scale9x-spec : {M : Type 1} → statement M
+scale9x-spec =
+    tie.close
+    (tie.spec
+    words-of-requires
+    mul-refusal
+    mul-refusal-2
+    mul-refusal-3
+    refusal-requires
+    returns
+    enlarge-requires
+    mul-enlarge
+    mul-enlarge-2
+    mul-enlarge-3
+    slice-reshare-prefix-enlarge
+    slice-aggregate-enlarge
+    enlarge-requires-2
+    same-length
+    same-length-2
+    same-length-3
+    same-length-4
+    returns-2)

@@ -1,0 +1,4 @@
+pub mod Whole
+pub mod Calls
+pub mod Laws
+pub mod Passes

@@ -1,0 +1,181 @@
+// Whole pictures: three-times and nine-times, into buffers that the caller lends.
+use assemble::assemble_3x;
+use field::grid::Grid;
+use field::junctions_rect;
+use field::metrics_rect;
+use field::tags_rect;
+use field::weights_rect;
+ghost use mathlib.Core.Path.{_≡_};
+ghost use Prim.Native.Nat.{ℕ, _+_, _-_, _*_, _<_, _≤_};
+ghost use lib.ListN.{length, drop};
+ghost use Rattle.picture.specs.Picture.{words};
+ghost use Rattle.picture.specs.Fill.{put, flat};
+ghost use Rattle.junction.specs.Junction.{junctions};
+ghost use Rattle.field.specs.Grid.{ofJunctions, metricField, weightsField, rectOf};
+ghost use Rattle.whole.specs.Whole.{rowsOf};
+ghost use Rattle.whole.specs.Calls.{refusalOf, Scales, Scales9};
+ghost use Rattle.whole.specs.Laws.{gridOf, taggedBlock};
+ghost use Rattle.whole.specs.Passes.{Fits, Enlarged, wordsWithin};
+
+pub mod assemble;
+
+// The largest side of a picture that is enlarged three times, and nine times.
+pub const SIDE3: u32 = 2048;
+
+pub const SIDE9: u32 = 682;
+
+// The number that turns a call away, or 0: side is the limit, n, o, m and s the elements that picture, output, middle and both of
+// singles and bytes have to have.
+fn refusal(
+    side: u32,
+    w: u32,
+    h: u32,
+    n: usize,
+    o: usize,
+    m: usize,
+    s: usize,
+    picture: usize,
+    output: usize,
+    middle: usize,
+    singles: usize,
+    bytes: usize,
+) -> u32
+    ensures { λ r. ⌜ r ≡ refusalOf side w h n o m s picture output middle singles bytes ⌝ }
+{
+    if (side < w) | (side < h) {
+        return picture::refusal::SIDE;
+    }
+    if picture < n {
+        return picture::refusal::PICTURE;
+    }
+    if output < o {
+        return picture::refusal::OUTPUT;
+    }
+    if (middle < m) | (singles < s) | (bytes < s) {
+        return picture::refusal::SCRATCH;
+    }
+    picture::refusal::NONE
+}
+
+// The words of a picture within the limit, and 0 past it, where no length is looked at.
+fn words_of(side: u32, w: u32, h: u32) -> usize
+    requires { ⌜ side ≤ 2048 ⌝ }
+    ensures { λ r. ⌜ r ≡ wordsWithin side w h ⌝ }
+{
+    if (side < w) | (side < h) {
+        return 0;
+    }
+    (w as usize) * (h as usize)
+}
+
+// The junctions of the whole picture, from its metrics at the front of the singles and its weights from `cut` on.
+fn junctions_whole(singles: &[f32], cut: usize, g: Grid, w: u32, h: u32, bytes: &mut [u8])
+    requires { ⌜ (g ≡ gridOf w h) × ((cut ≡ h * (w * 4)) × ((cut + cut ≤ length (now singles)) × (cut ≤ length (now bytes)))) ⌝ }
+    ensures { λ _. ⌜ now (bytes .exit) ≡ put 0 (rectOf ofJunctions g (junctions w h (metricField g (now (singles .entry))) (weightsField g (drop cut (now (singles .entry)))))) (now (bytes .entry)) ⌝ }
+{
+    let s = &singles[cut..];
+    junctions_rect(singles, g, s, g, w, h, g, bytes);
+}
+
+// The blocks of the whole picture, from its tags from `cut` on.
+fn blocks_whole(picture: &[u32], w: u32, h: u32, bytes: &[u8], cut: usize, output: &mut [u32])
+    requires { ⌜ (cut ≡ h * (w * 4)) × ((cut + cut ≤ length (now bytes)) × (h * (9 * w) ≤ length (now output))) ⌝ }
+    ensures { λ _. ⌜ now (output .exit) ≡ put 0 (flat h (λ y. rowsOf w (taggedBlock w h (words w (now (picture .entry))) (drop cut (now (bytes .entry))) (y * (w * 4)) y))) (now (output .entry)) ⌝ }
+{
+    let t = &bytes[cut..];
+    assemble_3x(picture, w, h, t, output);
+}
+
+// The five passes over a whole picture whose buffers are long enough.
+fn enlarge(
+    w: u32,
+    h: u32,
+    picture: &[u32],
+    output: &mut [u32],
+    singles: &mut [f32],
+    bytes: &mut [u8],
+)
+    requires { ⌜ Fits w h (length (now picture)) (length (now output)) (length (now singles)) (length (now bytes)) ⌝ }
+    ensures { λ _. ⌜ Enlarged w h (now (picture .entry)) (now (output .entry)) (now (singles .entry)) (now (bytes .entry)) (now (output .exit)) (now (singles .exit)) (now (bytes .exit)) ⌝ }
+{
+    let g = Grid {
+        x0: 0,
+        y0: 0,
+        cols: w,
+        rows: h,
+    };
+    let cut = (h as usize) * ((w as usize) * 4);
+    metrics_rect(picture, w, h, g, singles);
+    weights_rect(singles, cut, g, w, h, g);
+    junctions_whole(singles, cut, g, w, h, bytes);
+    tags_rect(bytes, cut, g, w, h, g);
+    blocks_whole(picture, w, h, bytes, cut, output);
+}
+
+// ScaleFX three-times. The answer is 0, or the number of the refusal, which leaves every buffer as it was.
+pub fn scale(
+    w: u32,
+    h: u32,
+    picture: &[u32],
+    output: &mut [u32],
+    singles: &mut [f32],
+    bytes: &mut [u8],
+) -> u32
+    ensures { λ r. ⌜ Scales w h (now (picture .entry)) (now (output .entry)) (now (singles .entry)) (now (bytes .entry)) (now (output .exit)) (now (singles .exit)) (now (bytes .exit)) r ⌝ }
+{
+    let n = words_of(SIDE3, w, h);
+    let f = refusal(
+        SIDE3,
+        w,
+        h,
+        n,
+        9 * n,
+        0,
+        8 * n,
+        picture.len(),
+        output.len(),
+        0,
+        singles.len(),
+        bytes.len(),
+    );
+    if f != 0 {
+        return f;
+    }
+    enlarge(w, h, picture, output, singles, bytes);
+    f
+}
+
+// ScaleFX nine-times: three-times into the middle, and three-times again from there.
+pub fn scale9x(
+    w: u32,
+    h: u32,
+    picture: &[u32],
+    output: &mut [u32],
+    middle: &mut [u32],
+    singles: &mut [f32],
+    bytes: &mut [u8],
+) -> u32
+    ensures { λ r. ⌜ Scales9 w h (now (picture .entry)) (now (output .entry)) (now (middle .entry)) (now (singles .entry)) (now (bytes .entry)) (now (output .exit)) (now (middle .exit)) (now (singles .exit)) (now (bytes .exit)) r ⌝ }
+{
+    let n = words_of(SIDE9, w, h);
+    let f = refusal(
+        SIDE9,
+        w,
+        h,
+        n,
+        81 * n,
+        9 * n,
+        72 * n,
+        picture.len(),
+        output.len(),
+        middle.len(),
+        singles.len(),
+        bytes.len(),
+    );
+    if f != 0 {
+        return f;
+    }
+    enlarge(w, h, picture, middle, singles, bytes);
+    enlarge(3 * w, 3 * h, &middle[..9 * n], output, singles, bytes);
+    f
+}

@@ -1,0 +1,186 @@
+/*
+ * panel: enlarges small pictures three or nine times by ScaleFX, at once or block by block as they change.
+ * Link with libpanel.a (rt staticlib panel). The library uses no heap and keeps no state of its own: all that
+ * it reads and writes is lent by the caller, for the time of the call.
+ *
+ * Pictures. A picture is w columns by h rows of 32-bit words, row by row from the top left; wh stands below for
+ * w times h. In a word red is bits 16 to 23, green 8 to 15, blue 0 to 7. The top byte is carried from the picture
+ * to the output and never compared. w or h may be 0.
+ *
+ * Buffers. Each buffer is a pointer and its length, IN ELEMENTS, not in bytes. A buffer may be longer than the
+ * call needs: elements past the stated number stay untouched. No pointer may be null, also where a length is 0;
+ * pointers are aligned for their type; what a call writes may not overlap anything else that it is lent.
+ *
+ * Answers. Every call but panel_distance returns 0, or the number of a refusal. A refused call changes no buffer,
+ * and writes 0 through each pointer to a number that it would have answered. Every condition is checked, and there
+ * is no input for which a call does not answer.
+ *
+ *   1  a side is past its limit
+ *   2  the picture buffer is short
+ *   3  the output buffer is short
+ *   4  the singles, bytes, middle or marks buffer is short
+ *   5  the position is outside the picture
+ *   6  the root's operand has its sign bit set, is infinite or is not a number
+ *   7  the block is stale
+ *   8  the file is under 12 bytes, its last four bytes are wrong, or its back is wrong or past the file
+ *
+ * Where several hold, the first in the order 1, 2, 3, 4, 5, 7 is returned (panel_read_page: 8, 1, 2).
+ */
+#ifndef PANEL_H
+#define PANEL_H
+
+#include <stddef.h>
+#include <stdint.h>
+
+#ifdef __cplusplus
+extern "C" {
+#endif
+
+#define PANEL_NONE 0u      /* not refused */
+#define PANEL_SIDE 1u      /* a side past its limit */
+#define PANEL_PICTURE 2u   /* the picture buffer is short */
+#define PANEL_OUTPUT 3u    /* the output buffer is short */
+#define PANEL_SCRATCH 4u   /* singles, bytes, middle or marks are short */
+#define PANEL_OUTSIDE 5u   /* the position is outside the picture */
+#define PANEL_OPERAND 6u   /* no root: sign bit set, infinite or not a number */
+#define PANEL_STALE 7u     /* the block is stale */
+#define PANEL_TRAILER 8u   /* the file is no page */
+
+#define PANEL_SIDE_3X 2048u /* the largest side of panel_scale, of a session and of a page */
+#define PANEL_SIDE_9X 682u  /* the largest side of panel_scale9x */
+
+/*
+ * The square root of a single, rounded to the nearest single.
+ *   *root    the root; +0.0 beside a refusal
+ * Refusal 6 where x has its sign bit set (-0.0 too), is infinite or is not a number.
+ */
+uint32_t panel_root(float x, float *root);
+
+/*
+ * How different two colours look: 0 to 1, and 0 exactly where the low 24 bits of p and q agree. The order of p and
+ * q does not matter, and neither do their top bytes. Never refused.
+ */
+float panel_distance(uint32_t p, uint32_t q);
+
+/*
+ * Enlarges a whole picture three times.
+ *   w, h     at most 2048 each
+ *   picture  wh words, read
+ *   output   9wh words, written: 3h rows of 3w
+ *   singles  8wh floats, written: first four distances a pixel (to top-left, top, top-right, right), then four
+ *            corner weights a pixel (top-left, top-right, bottom-right, bottom-left), pixels in row order
+ *   bytes    8wh bytes, written: first four junction numbers a pixel (0 to 15), then four tag numbers (0 to 80)
+ * What singles and bytes held before does not matter; what they hold afterwards may be ignored.
+ * Refusals, in this order: 1 w or h past 2048; 2; 3; 4 singles or bytes. With w or h of 0 nothing is written.
+ */
+uint32_t panel_scale(uint32_t w, uint32_t h,
+                     const uint32_t *picture, size_t picture_len,
+                     uint32_t *output, size_t output_len,
+                     float *singles, size_t singles_len,
+                     uint8_t *bytes, size_t bytes_len);
+
+/*
+ * Enlarges a whole picture nine times: three times, and the result three times again.
+ *   w, h     at most 682 each
+ *   picture  wh words, read
+ *   output   81wh words, written: 9h rows of 9w
+ *   middle   9wh words, written: the picture enlarged three times
+ *   singles  72wh floats, written: as in panel_scale, of the second enlargement
+ *   bytes    72wh bytes, written: as in panel_scale, of the second enlargement
+ * Refusals, in this order: 1 w or h past 682; 2; 3; 4 middle, singles or bytes. With w or h of 0 nothing is written.
+ */
+uint32_t panel_scale9x(uint32_t w, uint32_t h,
+                       const uint32_t *picture, size_t picture_len,
+                       uint32_t *output, size_t output_len,
+                       uint32_t *middle, size_t middle_len,
+                       float *singles, size_t singles_len,
+                       uint8_t *bytes, size_t bytes_len);
+
+/*
+ * A session keeps an output three times the size of a picture that changes, and draws anew only what a change can
+ * have altered. It is a header and three buffers, which the caller keeps from call to call and writes by these
+ * calls alone:
+ *   header   two numbers, w and h, as panel_open answers them; lent to every later call
+ *   picture  wh words
+ *   output   9wh words: 3h rows of 3w. The nine words of the pixel (bx, by) are block (bx, by)
+ *   marks    wh bytes, one a block in row order: 0 where the block shows the present picture, else it is stale
+ * Whatever paints and refreshes were made, a block that is not stale shows what panel_scale draws there for the
+ * present picture. A stale block keeps the words of its last drawing.
+ * A header is checked like fresh sizes: a call with a header that no opening answered is refused or safe.
+ */
+
+/*
+ * Opens a session on a picture. No block is drawn yet.
+ *   w, h     at most 2048 each
+ *   picture  wh words, read
+ *   output   9wh words, written: 0
+ *   marks    wh bytes, written: 1, every block is stale
+ *   header   the session's header; 0 and 0 beside a refusal
+ *   *stale   the number of stale blocks, wh; 0 beside a refusal
+ * Refusals, in this order: 1 w or h past 2048; 2; 3; 4 marks.
+ */
+uint32_t panel_open(uint32_t w, uint32_t h,
+                    const uint32_t *picture, size_t picture_len,
+                    uint32_t *output, size_t output_len,
+                    uint8_t *marks, size_t marks_len,
+                    uint32_t header[2], uint32_t *stale);
+
+/*
+ * Paints one pixel.
+ *   picture   the word at (column, row) is written where it is another, its top byte counted
+ *   marks     where the word was another, 1 is written at each block that it can alter: columns column-6 to
+ *             column+6 and rows row-5 to row+6 inside the picture; else nothing
+ *   *changed  1 where the word was another, 0 where it was equal; 0 beside a refusal
+ *   *stale    the number of stale blocks after the call; 0 beside a refusal
+ * Refusals, in this order: 1 the header's w or h past 2048; 2; 4 marks; 5 (column, row) outside the picture.
+ */
+uint32_t panel_paint(const uint32_t header[2],
+                     uint32_t *picture, size_t picture_len,
+                     uint8_t *marks, size_t marks_len,
+                     uint32_t column, uint32_t row, uint32_t word,
+                     uint32_t *changed, uint32_t *stale);
+
+/*
+ * Draws the first n stale blocks in row order, or all of them where there are fewer.
+ *   picture  read
+ *   output   nine words are written for each block drawn
+ *   marks    0 is written for each block drawn
+ *   *drawn   the number of blocks drawn; 0 beside a refusal
+ *   *left    the number of blocks still stale; 0 beside a refusal
+ * Refusals, in this order: 1 the header's w or h past 2048; 2; 3; 4 marks.
+ */
+uint32_t panel_refresh(const uint32_t header[2],
+                       const uint32_t *picture, size_t picture_len,
+                       uint32_t *output, size_t output_len,
+                       uint8_t *marks, size_t marks_len,
+                       uint32_t n, uint32_t *drawn, uint32_t *left);
+
+/*
+ * The nine words of one block, row by row. Nothing is written but words.
+ *   words    the block; nine times 0 beside a refusal
+ * Refusals, in this order: 1 the header's w or h past 2048; 3; 4 marks; 5 (bx, by) outside the picture; 7 the block
+ * is stale.
+ */
+uint32_t panel_show(const uint32_t header[2],
+                    const uint32_t *output, size_t output_len,
+                    const uint8_t *marks, size_t marks_len,
+                    uint32_t bx, uint32_t by, uint32_t words[9]);
+
+/*
+ * Reads a page file: pixels as little-endian words, then a trailer of 12 bytes at the end of the file: w and h, 16
+ * bits each, and back, 32 bits, all little-endian, then the bytes 50 41 47 45 (hexadecimal). Back is the distance
+ * from the end of the file to its first pixel, 12 + 4wh; bytes before that are ignored. The file may be of any length.
+ *   file     file_len bytes, read
+ *   picture  wh words, written
+ *   *w, *h   the sides; 0 and 0 beside a refusal
+ * Refusals, in this order: 8 the file is no page; 1 w or h past 2048; 2.
+ */
+uint32_t panel_read_page(const uint8_t *file, size_t file_len,
+                         uint32_t *picture, size_t picture_len,
+                         uint32_t *w, uint32_t *h);
+
+#ifdef __cplusplus
+}
+#endif
+
+#endif
