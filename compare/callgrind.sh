@@ -1,25 +1,28 @@
 #!/bin/bash
-# Instructions a pixel of the picture, at 64 a side, of the original and of the library. Needs valgrind.
+# Instructions a pixel of the picture, at 64 a side, of the original and of the library. Needs valgrind; the counts repeat.
 set -eu
 here=$(cd "$(dirname "$0")" && pwd)
 side=64
+"$here/run" --build
+program=$("$here/run" --where)
 room=$(mktemp -d)
 trap 'rm -rf "$room"' EXIT
-"$here/run" --build
 
-# Instructions inside one function, for one call.
+# The instructions inside a function, in one call.
 count() { # FUNCTION WORDS..
     local function=$1
     shift
-    valgrind --tool=callgrind --toggle-collect="$function" --callgrind-out-file="$room/out" "$("$here/run" --where)" bench --calls "$@" 2>"$room/said" >&2
-    sed -n 's/^.*Collected : *\([0-9][0-9]*\).*$/\1/p' "$room/said"
+    valgrind --tool=callgrind --toggle-collect="$function" --callgrind-out-file="$room/out" \
+        "$program" bench --calls "$@" >"$room/said" 2>&1
+    sed -n 's/^.*Collected : *\([0-9]*\).*$/\1/p' "$room/said"
 }
 
 for call in scale scale9x; do
     for picture in page noise; do
         original=$(count "*original_$call*" "$call" "$picture" "$side" original)
-        ours=$(count "panel_$call" "$call" "$picture" "$side")
-        awk -v c="$call" -v p="$picture" -v n=$((side * side)) -v a="$original" -v b="$ours" \
-            'BEGIN { printf "%-8s %-6s original %9.1f   library %9.1f instructions a pixel   library / original %.3f\n", c, p, a / n, b / n, b / a }'
+        library=$(count "panel_$call" "$call" "$picture" "$side")
+        awk -v c="$call" -v p="$picture" -v n=$((side * side)) -v a="$original" -v b="$library" 'BEGIN {
+            printf "%-8s %-6s original %9.1f   library %9.1f instructions a pixel   library / original %.3f\n", c, p, a / n, b / n, b / a
+        }'
     done
 done

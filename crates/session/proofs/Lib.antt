@@ -9,3 +9,4 @@ pub mod Words
 pub mod Loops
 pub mod Box
 pub mod Ends
+pub mod Scaled

@@ -64,8 +64,7 @@ module _ (S : Screen) (w h : ℕ) where
   abbrev pub refusalPaint : ℕ → ℕ → ℕ → ℕ → ℕ
   refusalPaint p m column row =
       cond sideLong refusal.side
-      (cond (ltb p (w * h)) refusal.picture
-      (cond (ltb m (w * h)) refusal.scratch
+      (cond (ltb p (w * h)) refusal.picture (cond (ltb m (w * h)) refusal.scratch
       (cond (inside w h column row) refusal.none refusal.outside)))
 
   -- of show, which looks at the block's mark too

@@ -111,7 +111,8 @@ impl Session {
         }
         let n = (w as usize) * (h as usize);
         let at = (row as usize) * (w as usize) + (column as usize);
-        if word == picture[at] {
+        let old = picture[at];
+        if word == old {
             return Painted {
                 refusal: 0,
                 changed: 0,

@@ -34,7 +34,7 @@ fn corner(w: u32, bx: u32, by: u32) -> usize
 
 // Three words side by side.
 fn store3(output: &mut [u32], at: usize, a: u32, b: u32, c: u32)
-    requires { ⌜ at + 3 ≤ length (now output) ⌝ }
+    requires { ⌜ (at < length (now output)) × ((at + 1 < length (now output)) × (at + 2 < length (now output))) ⌝ }
     ensures { λ r. ⌜ now (output .exit) ≡ set (set (set (now (output .entry)) at a) (at + 1) b) (at + 2) c ⌝ }
 {
     output[at] = a;

@@ -1,18 +1,20 @@
 -- Where the code stops early the tags are 0, and what lies two and three pixels away gives nothing where no run of four may pass.
 -- Assumes nothing.
 use mathlib.Core.Path.{_≡_, refl, sym, _∙_, ap}
-use mathlib.Core.Bool.{false}
+use mathlib.Core.Bool.{true, false}
 use Prim.Native.Nat.{ℕ, _*_, _/_, _%_}
 use native.Mathlib.Omega.{arith}
 use lib.Bits.{bitAnd, bitOr, or-add-and, and-le-l, and-le-r, and-zero-l, and-zero-r, and-block, and-mod, and-mask}
+use borrow.Author.Tests.{eqb-true}
 use Rattle.junction.specs.declared.Junctions.{Junctions}
 use Rattle.tag.specs.declared.lanes.Pair.{Pair}
 use Rattle.tag.specs.declared.Neighbors.{Neighbors}
 use Rattle.tag.specs.declared.Far.{Far}
 use Rattle.tag.specs.Tag.{active, horizontal, vertical, traceEdges}
+use Rattle.tag.specs.Laws.{none}
 use Rattle.tag.specs.Lanes.{lanes, across, down, above, own, after, choose}
 use Rattle.tag.specs.Words.{wordOf, actives, horizontals, verticals, aroundOf, level2Of, level3Of, level4Near, level4Of, level5Of, level6Of}
-use Rattle.tag.specs.Words.{farCorners, farMids, farOf, cornersOf, bothOf, midsOf, tagsWord, splitOf}
+use Rattle.tag.specs.Words.{farCorners, farMids, farOf, cornersOf, bothOf, midsOf, tagsWord, splitOf, bareOf}
 use Rattle.tag.proofs.LaneLaws.{num, bytewise}
 use Rattle.tag.proofs.LaneLaws as laws
 use Rattle.tag.proofs.Same.{around-sides, same}
@@ -98,11 +100,11 @@ module _ (e dl dl2 dl3 dr dr2 dr3 du du2 du3 dd dd2 dd3 : Junctions) where
       stops (b .0) (b .1) (a .1)
 
   -- the pixel has no flag but orientation
-  pub stops-early : bitAnd (wordOf e) 0x07070707 ≡ 0 → splitOf 0 ≡ traceEdges e dl dl2 dl3 dr dr2 dr3 du du2 du3 dd dd2 dd3
+  pub stops-early : bareOf e ≡ true → splitOf 0 ≡ traceEdges e dl dl2 dl3 dr dr2 dr3 du du2 du3 dd dd2 dd3
   unfolding lanes
   stops-early k =
       let z = zeros (bitAnd (e .n0) 7) (bitAnd (e .n1) 7) (bitAnd (e .n2) 7) (bitAnd (e .n3) 7)
-      (sym (bytewise bitAnd and-block and-mod (e .n0) (e .n1) (e .n2) (e .n3) 7 7 7 7) ∙ k) in
+      (sym (bytewise bitAnd and-block and-mod (e .n0) (e .n1) (e .n2) (e .n3) 7 7 7 7) ∙ eqb-true (bitAnd (wordOf e) 0x07070707) 0 k) in
       let b0 = bare (e .n0) (z .0) in
       let b1 = bare (e .n1) (z .1) in
       let b2 = bare (e .n2) (z .2) in
@@ -112,3 +114,8 @@ module _ (e dl dl2 dl3 dr dr2 dr3 du du2 du3 dd dd2 dd3 : Junctions) where
       (laws.verticals (e .n0) (e .n1) (e .n2) (e .n3) ∙ rw (b0 .no-vertical, b1 .no-vertical, b2 .no-vertical, b3 .no-vertical) blank) in
       stops (r .0) (r .1)
       (laws.actives (e .n0) (e .n1) (e .n2) (e .n3) ∙ rw (b0 .no-active, b1 .no-active, b2 .no-active, b3 .no-active) blank)
+
+  -- for a caller that loads the neighbours only where they count
+  pub bare-none : bareOf e ≡ true → traceEdges e dl dl2 dl3 dr dr2 dr3 du du2 du3 dd dd2 dd3 ≡ none
+  unfolding splitOf
+  bare-none k = sym (stops-early k)

@@ -1,5 +1,5 @@
 -- What the moves of bytes do to a word of four bytes, and bitwise and, or and xor to a word of flags. Assumes nothing.
-use mathlib.Core.Path.{_≡_, refl, sym, _∙_, ap, ap₂}
+use mathlib.Core.Path.{_≡_, refl, sym, _∙_, ap}
 use mathlib.Core.Bool.{Bool, true, false, not, cond, _&&_, _||_}
 use Prim.Native.Nat.{ℕ, zero, suc, _+_, _*_, _-_, _/_, _%_, _<_, _≤_, _^_}
 use native.Mathlib.Nat.{mod-mod, mod-eq-of-lt, mul-le-mul-right, mul-div-cancel, add-mul}
@@ -52,18 +52,13 @@ turned : (a b c d : ℕ) → lanes a b c d / 256 + lanes a b c d % 256 * 1677721
 unfolding lanes
 turned a b c d = omega arith
 
-module _ (a b c d a′ b′ c′ d′ : ℕ) where
-  pub own-lanes : own (lanes a b c d) (lanes a′ b′ c′ d′) ≡ lanes a b′ c d′
-  unfolding own
-  own-lanes = rw (byte0 a b c d, byte1 a′ b′ c′ d′, byte2 a b c d, byte3 a′ b′ c′ d′) (made a b′ c d′)
+pub own-lanes : (a b c d a′ b′ c′ d′ : ℕ) → own (lanes a b c d) (lanes a′ b′ c′ d′) ≡ lanes a b′ c d′
+unfolding own
+own-lanes a b c d a′ b′ c′ d′ = rw (byte0 a b c d, byte1 a′ b′ c′ d′, byte2 a b c d, byte3 a′ b′ c′ d′) (made a b′ c d′)
 
-  own-turned : own (lanes a′ b′ c′ d′) (lanes a b c d) ≡ lanes a′ b c′ d
-  unfolding own
-  own-turned = rw (byte0 a′ b′ c′ d′, byte1 a b c d, byte2 a′ b′ c′ d′, byte3 a b c d) (made a′ b c′ d)
-
-  pub after-lanes : after (lanes a b c d) (lanes a′ b′ c′ d′) ≡ lanes b c′ d a′
-  unfolding after
-  after-lanes = rw (own-turned) (turned a′ b c′ d)
+pub after-lanes : (a b c d a′ b′ c′ d′ : ℕ) → after (lanes a b c d) (lanes a′ b′ c′ d′) ≡ lanes b c′ d a′
+unfolding after
+after-lanes a b c d a′ b′ c′ d′ = rw (own-lanes a′ b′ c′ d′ a b c d) (turned a′ b c′ d)
 
 -- a bitwise operation acts on each byte
 module _ (f : ℕ → ℕ → ℕ)

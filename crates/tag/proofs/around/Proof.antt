@@ -1,3 +1,4 @@
+-- `tag::around` meets its contract. Assumes nothing.
 use borrow.Author.Needs.{needs}
 use Rattle.tag.specs.Words.{aroundOf}
 use Rattle.tag.proofs.around.Statement.{statement}

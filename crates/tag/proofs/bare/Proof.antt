@@ -1,9 +1,7 @@
+-- `tag::bare` meets its contract. Assumes nothing.
 use borrow.Author.Needs.{needs}
 use Rattle.tag.proofs.bare.Statement.{statement}
 use Rattle.tag.proofs.bare.Tie as tie
-use Rattle.tag.proofs.bare.Reads as reads
-use Rattle.tag.proofs.bare.Lts as lts
-use Rattle.tag.proofs.lanes.word.Reads as word-reads
 
 word-requires : tie.Need-word-requires
 word-requires c κs = search needs

@@ -1,3 +1,4 @@
+-- `tag::both` meets its contract. Assumes nothing.
 use borrow.Author.Needs.{needs}
 use Rattle.tag.specs.Words.{bothOf}
 use Rattle.tag.specs.Lanes.{lanes}

@@ -1,3 +1,4 @@
+-- `tag::corners` meets its contract. Assumes nothing.
 use borrow.Author.Needs.{needs}
 use Rattle.tag.specs.Words.{cornersOf}
 use Rattle.tag.specs.Lanes.{lanes}

@@ -1,3 +1,4 @@
+-- `tag::far_corners` meets its contract. Assumes nothing.
 use borrow.Author.Needs.{needs}
 use Rattle.tag.specs.Words.{farCorners}
 use Rattle.tag.specs.Lanes.{lanes}

@@ -1,3 +1,4 @@
+-- `tag::far_mids` meets its contract. Assumes nothing.
 use borrow.Author.Needs.{needs}
 use Rattle.tag.specs.Words.{farMids}
 use Rattle.tag.specs.Lanes.{lanes}

@@ -1,3 +1,4 @@
+-- `tag::farther` meets its contract. Assumes nothing.
 use mathlib.Core.Path.{sym}
 use borrow.Author.Needs.{needs}
 use Rattle.tag.specs.Words.{aroundOf, farOf}

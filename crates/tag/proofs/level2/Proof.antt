@@ -1,3 +1,4 @@
+-- `tag::level2` meets its contract. Assumes nothing.
 use borrow.Author.Needs.{needs}
 use Rattle.tag.specs.Words.{level2Of}
 use Rattle.tag.proofs.level2.Statement.{statement}

@@ -1,3 +1,4 @@
+-- `tag::level3` meets its contract. Assumes nothing.
 use borrow.Author.Needs.{needs}
 use Rattle.tag.specs.Words.{level3Of}
 use Rattle.tag.proofs.level3.Statement.{statement}

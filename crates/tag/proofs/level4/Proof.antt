@@ -1,3 +1,4 @@
+-- `tag::level4` meets its contract. Assumes nothing.
 use borrow.Author.Needs.{needs}
 use Rattle.tag.specs.Words.{level4Of}
 use Rattle.tag.proofs.level4.Statement.{statement}

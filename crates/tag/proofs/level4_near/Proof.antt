@@ -1,3 +1,4 @@
+-- `tag::level4_near` meets its contract. Assumes nothing.
 use borrow.Author.Needs.{needs}
 use Rattle.tag.specs.Words.{level4Near}
 use Rattle.tag.proofs.level4_near.Statement.{statement}

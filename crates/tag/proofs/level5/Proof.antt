@@ -1,3 +1,4 @@
+-- `tag::level5` meets its contract. Assumes nothing.
 use borrow.Author.Needs.{needs}
 use Rattle.tag.specs.Words.{level5Of}
 use Rattle.tag.proofs.level5.Statement.{statement}

@@ -1,3 +1,4 @@
+-- `tag::level6` meets its contract. Assumes nothing.
 use borrow.Author.Needs.{needs}
 use Rattle.tag.specs.Words.{level6Of}
 use Rattle.tag.proofs.level6.Statement.{statement}

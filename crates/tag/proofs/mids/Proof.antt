@@ -1,3 +1,4 @@
+-- `tag::mids` meets its contract. Assumes nothing.
 use borrow.Author.Needs.{needs}
 use Rattle.tag.specs.Words.{midsOf}
 use Rattle.tag.specs.Lanes.{lanes}

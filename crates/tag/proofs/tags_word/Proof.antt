@@ -1,3 +1,4 @@
+-- `tag::tags_word` meets its contract. Assumes nothing.
 use borrow.Author.Needs.{needs}
 use Rattle.tag.specs.Words.{tagsWord}
 use Rattle.tag.proofs.tags_word.Statement.{statement}

@@ -1,8 +1,6 @@
+-- `tag::trace_edges` meets its contract. Assumes nothing.
 use mathlib.Core.Path.{sym, _∙_}
-use lib.Bits.{bitAnd}
 use borrow.Author.Needs.{needs}
-use borrow.Author.Tests.{eqb-true}
-use Rattle.tag.specs.Words.{wordOf}
 use Rattle.tag.proofs.Exits.{whole, stops-early, stops-late}
 use Rattle.tag.proofs.trace_edges.Statement.{statement}
 use Rattle.tag.proofs.trace_edges.Tie as tie
@@ -18,7 +16,7 @@ returns c =
     let a = c .before .before .before .args in
     c .split .ensures
     ∙ stops-early (a .e) (a .dl) (a .dl2) (a .dl3) (a .dr) (a .dr2) (a .dr3) (a .du) (a .du2) (a .du3) (a .dd) (a .dd2) (a .dd3)
-    (eqb-true (bitAnd (wordOf (a .e)) 0x07070707) 0 (sym (c .before .before .bare .ensures) ∙ c .before .if1 .taken))
+    (sym (c .before .before .bare .ensures) ∙ c .before .if1 .taken)
 
 word-requires : tie.Need-word-requires
 word-requires c κs = search needs

@@ -47,11 +47,11 @@ mul-at c = omega (arith, lent-of c)
 add-at : tie.Need-add-at
 add-at c = omega (arith, lent-of c)
 
-mul-if2 : tie.Need-mul-if2
-mul-if2 c = omega (arith, lent-of c)
+mul-old : tie.Need-mul-old
+mul-old c = omega (arith, lent-of c)
 
-slice-read-if2 : tie.Need-slice-read-if2
-slice-read-if2 c = omega (arith, lent-of (c .before))
+slice-read-old : tie.Need-slice-read-old
+slice-read-old c = omega (arith, lent-of (c .before))
 
 count-stale-requires : tie.Need-count-stale-requires
 count-stale-requires c κs = let l = lent-of (c .before .before .before) in (omega arith, (l .small, l .for-marks))
@@ -112,8 +112,8 @@ paint-spec =
     cast-at
     mul-at
     add-at
-    mul-if2
-    slice-read-if2
+    mul-old
+    slice-read-old
     count-stale-requires
     same-length
     returns-2

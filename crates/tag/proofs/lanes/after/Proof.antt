@@ -1,3 +1,4 @@
+-- `tag::lanes::after` meets its contract. Assumes nothing.
 use borrow.Author.Needs.{needs}
 use Rattle.tag.specs.Lanes.{after}
 use Rattle.tag.proofs.lanes.after.Statement.{statement}

@@ -1,3 +1,4 @@
+-- `tag::lanes::beside` meets its contract. Assumes nothing.
 use borrow.Author.Needs.{needs}
 use mathlib.Core.Path.{refl}
 use Rattle.tag.specs.Lanes.{beside}

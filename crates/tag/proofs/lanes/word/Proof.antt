@@ -1,3 +1,4 @@
+-- `tag::lanes::word` meets its contract. Assumes nothing.
 use borrow.Author.Needs.{needs}
 use native.Mathlib.Omega.{arith}
 use Rattle.tag.specs.Lanes.{lanes}

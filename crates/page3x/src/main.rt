@@ -1,0 +1,18 @@
+// Reads a page file from standard input and prints the page three times as large, or the number of its refusal.
+use libc::STDERR_FILENO;
+use libc::STDIN_FILENO;
+use libc::STDOUT_FILENO;
+
+fn main() {
+    // One byte past the longest file that is taken: a longer one is then known to be longer.
+    let mut file = [0u8; text::FILE + 1];
+    let n = io::read_full(STDIN_FILENO, &mut file);
+    let mut text = [0u8; text::TEXT];
+    let k = text::page_text(&file[..n], &mut text);
+    if !io::write_all(STDOUT_FILENO, &text[..k]) {
+        io::write_all(
+            STDERR_FILENO,
+            b"page3x: the text could not be written whole\n",
+        );
+    }
+}

@@ -1,0 +1,20 @@
+// The root and the distance.
+ghost use mathlib.Core.Path.{_≡_};
+ghost use Rattle.single.specs.Root.{rootAnswer};
+ghost use Rattle.metric.specs.Distance.{distanceOf};
+
+#[no_mangle]
+pub extern "C" fn panel_root(x: f32, root: &mut f32) -> u32
+    ensures { λ r. ⌜ record { refusal = r; root = now (root .exit) } ≡ rootAnswer x ⌝ }
+{
+    let rooted = single::root(x);
+    *root = rooted.root;
+    rooted.refusal
+}
+
+#[no_mangle]
+pub extern "C" fn panel_distance(p: u32, q: u32) -> f32
+    ensures { λ r. ⌜ r ≡ distanceOf p q ⌝ }
+{
+    metric::color_distance(p, q)
+}

@@ -1,0 +1,33 @@
+// Whole pictures.
+ghost use Rattle.whole.specs.Calls.{Scales, Scales9};
+
+#[no_mangle]
+pub extern "C" fn panel_scale(
+    w: u32,
+    h: u32,
+    picture: &[u32],
+    output: &mut [u32],
+    singles: &mut [f32],
+    bytes: &mut [u8],
+) -> u32
+    ensures { λ r. ⌜ Scales w h (now (picture .entry)) (now (output .entry)) (now (singles .entry)) (now (bytes .entry))
+        (now (output .exit)) (now (singles .exit)) (now (bytes .exit)) r ⌝ }
+{
+    whole::scale(w, h, picture, output, singles, bytes)
+}
+
+#[no_mangle]
+pub extern "C" fn panel_scale9x(
+    w: u32,
+    h: u32,
+    picture: &[u32],
+    output: &mut [u32],
+    middle: &mut [u32],
+    singles: &mut [f32],
+    bytes: &mut [u8],
+) -> u32
+    ensures { λ r. ⌜ Scales9 w h (now (picture .entry)) (now (output .entry)) (now (middle .entry)) (now (singles .entry)) (now (bytes .entry))
+        (now (output .exit)) (now (middle .exit)) (now (singles .exit)) (now (bytes .exit)) r ⌝ }
+{
+    whole::scale9x(w, h, picture, output, middle, singles, bytes)
+}
