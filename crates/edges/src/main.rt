@@ -13,13 +13,7 @@ fn line(name: &[u8], a: u32, b: u32, c: u32) {
     io::write_all(STDOUT_FILENO, b"\n");
 }
 
-fn refresh(
-    session: Session,
-    picture: &[u32],
-    output: &mut [u32],
-    marks: &mut [u8],
-    n: u32,
-) {
+fn refresh(session: Session, picture: &[u32], output: &mut [u32], marks: &mut [u8], n: u32) {
     let r = session.refresh(picture, output, marks, n);
     line(b"refresh", r.refusal, r.drawn, r.left);
 }
@@ -39,6 +33,15 @@ fn paint(
 fn show(session: Session, output: &[u32], marks: &[u8], bx: u32, by: u32) {
     let s = session.show(output, marks, bx, by);
     line(b"show", s.refusal, s.words[0], s.words[4]);
+}
+
+// A side past the limit.
+fn too_wide() {
+    let picture = [0u32; 4];
+    let mut output = [7u32; 36];
+    let mut marks = [3u8; 4];
+    let o = Session::open(2049, 1, &picture, &mut output, &mut marks);
+    line(b"open", o.refusal, o.session.w, o.stale);
 }
 
 fn main() {
@@ -65,6 +68,5 @@ fn main() {
     show(s, &output, &marks, 10, 10);
     show(s, &output, &marks, 31, 31);
     show(s, &output, &marks, 0, 32);
-    let long = Session::open(2049, 32, &picture, &mut output, &mut marks);
-    line(b"open", long.refusal, long.session.w, long.stale);
+    too_wide();
 }
