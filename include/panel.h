@@ -1,7 +1,8 @@
 /*
  * panel: enlarges small pictures three or nine times by ScaleFX, at once or block by block as they change.
  * Link with libpanel.a (rt staticlib panel). The library uses no heap and keeps no state of its own: all that
- * it reads and writes is lent by the caller, for the time of the call.
+ * it reads and writes is lent by the caller, for the time of the call. The only symbol that it needs from outside
+ * is memset; its deepest call, panel_refresh, takes less than 10 KiB of stack.
  *
  * Pictures. A picture is w columns by h rows of 32-bit words, row by row from the top left; wh stands below for
  * w times h. In a word red is bits 16 to 23, green 8 to 15, blue 0 to 7. The top byte is carried from the picture
