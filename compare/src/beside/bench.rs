@@ -149,6 +149,19 @@ impl Session {
     }
 }
 
+/// The middle one of some times.
+fn median(times: impl Iterator<Item = f64>) -> f64 {
+    let mut times: Vec<f64> = times.collect();
+    times.sort_by(f64::total_cmp);
+    times[times.len() / 2]
+}
+
+/// All marks in one byte: each is read once, as fast as the compiler can make it.
+#[inline(never)]
+fn read_marks(marks: &[u8]) -> u8 {
+    marks.iter().fold(0, |all, mark| all | mark)
+}
+
 fn session() {
     let side = SESSION_SIDE;
     println!("a session of {side} by {side}: microseconds, beside one whole scale of the original");
@@ -171,7 +184,7 @@ fn session() {
             time(|| assert_eq!(session.refresh().left, 0))
         }));
         say("first refresh of everything after opening", first);
-        let changed = least(&mut (0..200).map(|i| {
+        let changed = median((0..200).map(|i| {
             let (column, row) = (20 + 37 * i % 200, 20 + 53 * i % 200);
             let word = session.picture[row * side + column] ^ 0x00ff_ffff;
             time(|| {
@@ -180,11 +193,15 @@ fn session() {
             })
         }));
         say("one changed pixel: paint, and refresh until none is stale", changed);
-        let word = session.picture[100 * side + 100];
-        say(
-            "paint of an equal word, with its stale count",
-            least(&mut (0..200).map(|_| time(|| assert_eq!(session.paint(100, 100, word).changed, 0)))),
+        let (word, marks) = (session.picture[100 * side + 100], session.marks.clone());
+        let (once, equal) = best(
+            200,
+            || assert_eq!(read_marks(black_box(&marks)), 0),
+            || assert_eq!(session.paint(100, 100, word).changed, 0),
         );
+        say("the marks read once, by plain Rust", once);
+        say("paint of an equal word, with its stale count", equal);
+        println!("{name:<6} the paint of an equal word takes {:.2} times the marks read once", equal / once);
         say(
             "refresh with nothing stale",
             least(&mut (0..200).map(|_| time(|| assert_eq!(session.refresh().drawn, 0)))),

@@ -1,4 +1,5 @@
 pub mod Block
 pub mod Locality
 pub mod Window
+pub mod Passes
 pub mod Table

@@ -2,4 +2,3 @@ pub mod Grid
 pub mod Room
 pub mod Places
 pub mod Kept
-pub mod Across

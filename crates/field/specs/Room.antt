@@ -60,9 +60,6 @@ reads-at a b g w h v y r i hi = record { on-x = omega arith; on-y = omega arith;
 pub feeds-at : (a b : ℕ) (g : Grid) (w h : ℕ) (v : Grid) → Feeds a b g w h v → (j : ℕ) → j < v .rows → Reads a b g w h v (v .y0 + j)
 feeds-at a b g w h v f j hj = record { columns = omega arith; line = omega arith; left = omega arith; right = omega arith; above = omega arith; below = omega arith }
 
-pub around-less : {a b c d : ℕ} {g : Grid} {w h x y : ℕ} → c ≤ a → d ≤ b → Around a b g w h x y → Around c d g w h x y
-around-less k l r = record { on-x = r .on-x; on-y = r .on-y; left = omega arith; right = omega arith; above = omega arith; below = omega arith }
-
 -- the elements before a cut have room for what the cut has room for
 pub held-take : {E : Type 0} (g : Grid) (cut : ℕ) (l : List E) → cut ≤ length l → Held g cut → Held g (length (take cut l))
 held-take g cut l h k = omega (arith, length-take-le cut l h)

@@ -2,13 +2,14 @@
 use junction::Junctions;
 use metric::Metric;
 use metric::Weights;
+use tag::Tags;
 ghost use mathlib.Core.Path.{_≡_};
 ghost use Prim.Native.Nat.{ℕ, _+_, _-_, _*_, _^_, _<_, _≤_};
 ghost use mathlib.Core.List.{[], _∷_};
 ghost use lib.ListN.{length};
 ghost use Rattle.picture.specs.Picture.{words};
 ghost use Rattle.picture.specs.Fill.{put};
-ghost use Rattle.field.specs.Grid.{metricAt, weightsAt, junctionsAt, metricField, weightsField, junctionsField};
+ghost use Rattle.field.specs.Grid.{metricAt, weightsAt, junctionsAt, tagsAt, metricField, weightsField, junctionsField};
 ghost use Rattle.field.specs.Room.{Held, Within};
 
 // A rectangle of the picture: its first column and row, its columns and rows.
@@ -62,6 +63,18 @@ fn load_junctions(s: &[u8], i: usize) -> Junctions
         n1: s[i + 1],
         n2: s[i + 2],
         n3: s[i + 3],
+    }
+}
+
+pub fn load_tags(s: &[u8], i: usize) -> Tags
+    requires { ⌜ i + 4 ≤ length (now s) ⌝ }
+    ensures { λ r. ⌜ r ≡ tagsAt (now (s .entry)) i ⌝ }
+{
+    Tags {
+        t0: s[i],
+        t1: s[i + 1],
+        t2: s[i + 2],
+        t3: s[i + 3],
     }
 }
 

@@ -25,7 +25,6 @@ ghost use Rattle.junction.specs.Junction.{junctions};
 ghost use Rattle.tag.specs.Tag.{tags};
 ghost use Rattle.field.specs.Grid.{ofMetric, ofWeights, ofJunctions, ofTags, metricField, weightsField, junctionsField, rowOf, rectOf};
 ghost use Rattle.field.specs.Room.{Held, Around, Strip, Inner, Reads, Feeds};
-ghost use Rattle.field.specs.Across.{tagsAcross};
 
 pub mod grid;
 pub mod place;
@@ -233,10 +232,10 @@ pub fn junctions_rect(
     }
 }
 
-// The tags of (x, y), from the junctions along its row in the rectangle g and along its column in v.
-pub fn tags_at(j: &[u8], g: Grid, k: &[u8], v: Grid, w: u32, h: u32, x: u32, y: u32) -> Tags
-    requires { ⌜ (Around 3 0 g w h x y) × ((Held g (length (now j))) × ((Around 0 3 v w h x y) × (Held v (length (now k))))) ⌝ }
-    ensures { λ q. ⌜ q ≡ tagsAcross w h (junctionsField g (now (j .entry))) (junctionsField v (now (k .entry))) x y ⌝ }
+// The tags of (x, y), from the junctions out to distance 3 in the rectangle g.
+fn tags_around(j: &[u8], g: Grid, w: u32, h: u32, x: u32, y: u32) -> Tags
+    requires { ⌜ (Around 3 3 g w h x y) × (Held g (length (now j))) ⌝ }
+    ensures { λ q. ⌜ q ≡ tags w h (junctionsField g (now (j .entry))) x y ⌝ }
 {
     let xs = seven_at(x, w);
     let ys = seven_at(y, h);
@@ -248,13 +247,29 @@ pub fn tags_at(j: &[u8], g: Grid, k: &[u8], v: Grid, w: u32, h: u32, x: u32, y: 
         junctions_in(j, g, xs.after1, ys.at),
         junctions_in(j, g, xs.after2, ys.at),
         junctions_in(j, g, xs.after3, ys.at),
-        junctions_in(k, v, xs.at, ys.before1),
-        junctions_in(k, v, xs.at, ys.before2),
-        junctions_in(k, v, xs.at, ys.before3),
-        junctions_in(k, v, xs.at, ys.after1),
-        junctions_in(k, v, xs.at, ys.after2),
-        junctions_in(k, v, xs.at, ys.after3),
+        junctions_in(j, g, xs.at, ys.before1),
+        junctions_in(j, g, xs.at, ys.before2),
+        junctions_in(j, g, xs.at, ys.before3),
+        junctions_in(j, g, xs.at, ys.after1),
+        junctions_in(j, g, xs.at, ys.after2),
+        junctions_in(j, g, xs.at, ys.after3),
     )
+}
+
+// The same. Where the pixel itself has no flag but orientation, as most of a page's, nothing around it is read.
+pub fn tags_at(j: &[u8], g: Grid, w: u32, h: u32, x: u32, y: u32) -> Tags
+    requires { ⌜ (Around 3 3 g w h x y) × (Held g (length (now j))) ⌝ }
+    ensures { λ q. ⌜ q ≡ tags w h (junctionsField g (now (j .entry))) x y ⌝ }
+{
+    if tag::bare(junctions_in(j, g, x, y)) {
+        return Tags {
+            t0: 0,
+            t1: 0,
+            t2: 0,
+            t3: 0,
+        };
+    }
+    tags_around(j, g, w, h, x, y)
 }
 
 // The tags of row y of the rectangle q, from the junctions of the rectangle g before `cut`, from the element `at` on.
@@ -267,8 +282,7 @@ pub fn tags_row(bytes: &mut [u8], cut: usize, g: Grid, w: u32, h: u32, q: Grid, 
     let mut x: u32 = 0;
     let mut i = at;
     while x < cols {
-        let j = &bytes[..cut];
-        let t = tags_at(j, g, j, g, w, h, x0 + x, y);
+        let t = tags_at(&bytes[..cut], g, w, h, x0 + x, y);
         store_bytes(bytes, i, t.t0, t.t1, t.t2, t.t3);
         i += 4;
         x += 1;

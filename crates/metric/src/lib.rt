@@ -74,6 +74,23 @@ pub struct Metric {
     pub r: f32,
 }
 
+fn pick(first: bool, a: u32, b: u32) -> u32
+    ensures { λ r. ⌜ r ≡ cond first a b ⌝ }
+{
+    if first { a } else { b }
+}
+
+// The distance of c and q, where d is that of c and o.
+fn distance_by(c: u32, q: u32, o: u32, d: f32) -> f32
+    requires { ⌜ d ≡ distanceOf c o ⌝ }
+    ensures { λ r. ⌜ r ≡ distanceOf c q ⌝ }
+{
+    if q == o {
+        return d;
+    }
+    color_distance(c, q)
+}
+
 // The metric of the pixel c, beside its neighbours.
 pub fn metric_of(c: u32, tl: u32, t: u32, tr: u32, r: u32) -> Metric
     ensures { λ m. ⌜ m ≡ metricOf c tl t tr r ⌝ }
@@ -87,11 +104,18 @@ pub fn metric_of(c: u32, tl: u32, t: u32, tr: u32, r: u32) -> Metric
             r: 0.0,
         };
     }
+    // A page has few colours: the neighbours that differ from c are mostly one word, and its root serves for all of them.
+    let o = pick(
+        same(c, tl),
+        pick(same(c, t), pick(same(c, tr), r, tr), t),
+        tl,
+    );
+    let d = color_distance(c, o);
     Metric {
-        tl: color_distance(c, tl),
-        t: color_distance(c, t),
-        tr: color_distance(c, tr),
-        r: color_distance(c, r),
+        tl: distance_by(c, tl, o, d),
+        t: distance_by(c, t, o, d),
+        tr: distance_by(c, tr, o, d),
+        r: distance_by(c, r, o, d),
     }
 }
 

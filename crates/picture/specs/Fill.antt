@@ -9,7 +9,8 @@ use mathlib.Core.Bool.{Bool, true, false}
 use lib.Dec.{ltb}
 use borrow.Author.Tests.{ltb-true, ltb-false}
 use lib.ListN.{take-append-drop, length, getD, take, drop, set, length-append, length-take, length-drop, List·getD-append}
-use lib.Seq.{take-take, sets, sets-eq, set-comm, take-append-le, drop-append-le, take-at, drop-at, drop-drop, length-take-le, take-all, drop-append-add, take-append-add, getD-append-add, getD-take, getD-drop}
+use lib.Seq.{take-take, sets, sets-eq, set-comm, take-append-le}
+use lib.Seq.{take-at, drop-drop, length-take-le, drop-append-add, getD-append-add, getD-take}
 
 -- entry j of chunk i stands before the end of n chunks; and so does the chunk's end
 pub within : (i n j k : ℕ) → i < n → j < k → i * k + j < n * k
@@ -168,18 +169,6 @@ module _ {A : Type 0} where
 
   pub length-rect : (k cols rows : ℕ) (r : ℕ → ℕ → List A) → ((x y : ℕ) → length (r x y) ≡ k) → length (flat rows (λ y. flat cols (λ x. r x y))) ≡ rows * (cols * k)
   length-rect k cols rows r lens = length-flat (cols * k) (λ y. flat cols (λ x. r x y)) (λ y. length-flat k (λ x. r x y) (λ x. lens x y) cols) rows
-
-  pub getD-put-after : (b : ℕ) (vs l : List A) (i : ℕ) (d : A) → b + length vs ≤ i → b ≤ length l → getD (put b vs l) i d ≡ getD l i d
-  unfolding put
-  getD-put-after b vs l i d hi hb =
-      let m = i - (b + length vs) in
-      let e : i ≡ b + (length vs + m) = omega arith in
-      let e′ : b + length vs + m ≡ i = omega arith in
-      ap (λ (n : ℕ). getD (take b l ++ (vs ++ drop (b + length vs) l)) n d) e
-      ∙ getD-past (take b l) (vs ++ drop (b + length vs) l) b (length vs + m) d (length-take-le b l hb)
-      ∙ getD-append-add vs (drop (b + length vs) l) m d
-      ∙ getD-drop (b + length vs) l m d
-      ∙ ap (λ (n : ℕ). getD l n d) e′
 
   -- three stores, one after the other
   pub stored3 : (l : List A) (i : ℕ) (a b c : A) → i + 3 ≤ length l → set (set (set l i a) (i + 1) b) (i + 2) c ≡ put i (a ∷ b ∷ c ∷ []) l

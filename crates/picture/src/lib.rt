@@ -1,7 +1,9 @@
+// Reading the words of a picture at signed positions, clamped to its borders.
 ghost use mathlib.Core.Path.{_≡_};
 ghost use Prim.Native.Nat.{ℕ, _+_, _*_, _<_, _≤_};
 ghost use Rattle.picture.specs.Picture.{clampZ, moved, near, words};
 
+pub mod reader;
 pub mod refusal;
 
 // A signed position on an axis of n places, clamped to the axis.
@@ -29,8 +31,8 @@ pub fn shift(p: u32, d: i32, n: u32) -> u32
     clamp(p as i64 + d as i64, n)
 }
 
-// The word at an offset from (x, y), clamped at both borders.
-pub fn get(picture: &[u32], w: u32, h: u32, x: u32, y: u32, dx: i32, dy: i32) -> u32
+// The word at an offset from (x, y), clamped at both borders: what the reader's method calls.
+fn word_near(picture: &[u32], w: u32, h: u32, x: u32, y: u32, dx: i32, dy: i32) -> u32
     ensures { λ r. ⌜ r ≡ near w h (words w (now (picture .entry))) x y dx dy ⌝ }
 {
     let cx = shift(x, dx, w) as usize;
@@ -40,4 +42,11 @@ pub fn get(picture: &[u32], w: u32, h: u32, x: u32, y: u32, dx: i32, dy: i32) ->
         return picture[i];
     }
     0
+}
+
+// The same through the reader. Its parameters are plain, so that callers need no walk.
+pub fn get(picture: &[u32], w: u32, h: u32, x: u32, y: u32, dx: i32, dy: i32) -> u32
+    ensures { λ r. ⌜ r ≡ near w h (words w (now (picture .entry))) x y dx dy ⌝ }
+{
+    reader::Reader::over(picture, w, h).get(x, y, dx, dy)
 }

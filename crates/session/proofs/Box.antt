@@ -17,7 +17,7 @@ use Rattle.session.specs.Three.{between, box3, screen3}
 use Rattle.session.proofs.Places.{block-lt, row-lt}
 use Rattle.session.proofs.Lists.{length-stamp, getD-stamp}
 
-bool-same : (a b : Bool) → (a ≡ true → b ≡ true) → (b ≡ true → a ≡ true) → a ≡ b
+pub bool-same : (a b : Bool) → (a ≡ true → b ≡ true) → (b ≡ true → a ≡ true) → a ≡ b
 bool-same true b f g = sym (f refl)
 bool-same false true f g = g refl
 bool-same false false f g = refl
@@ -30,7 +30,7 @@ and-of a b e = and-eq-true-iff a b .0 e
 
 -- ---- two stamps of one value, and the same stamp by another test
 
-or-cond : (a b : Bool) (v x : ℕ) → cond (a || b) v x ≡ cond a v (cond b v x)
+pub or-cond : (a b : Bool) (v x : ℕ) → cond (a || b) v x ≡ cond a v (cond b v x)
 or-cond true b v x = refl
 or-cond false b v x = refl
 

@@ -8,10 +8,10 @@ use Prim.Native.Nat.{ℕ, zero, suc, _+_, _*_, _/_, _%_, _≤_, _<_}
 use native.Mathlib.Nat.{add-zero, zero-add, add-suc, suc-add, le-of-suc-le-suc, not-suc-le-zero}
 use native.Mathlib.Decide.{ℕ-discrete}
 use native.Mathlib.Omega.{arith}
-use lib.Dec.{ltb}
+use lib.Dec.{ltb, eqb}
 use lib.ListN.{length, getD, set, length-set, length-replicate, getD-replicate}
 use lib.Seq.{getD-set-same, getD-set-other, ext-getD}
-use borrow.Author.Tests.{lt-ltb}
+use borrow.Author.Tests.{lt-ltb, eq-eqb, ne-eqb}
 use Rattle.session.specs.Lists.{stamp, setAll, count, first}
 use Rattle.session.specs.Screen.{Screen, Lawful, blockWords, place}
 use Rattle.session.specs.Machine.{State, opened, store, redraw, names, putWords, putBlock, putAll}
@@ -30,10 +30,10 @@ unnamed false u e f = absurd (false≢true e)
 
 module _ (S : Screen) (w h : ℕ) where
   -- where word k of block b lies, and its words as they are drawn
-  abbrev spotOf : ℕ → ℕ → ℕ
+  abbrev pub spotOf : ℕ → ℕ → ℕ
   spotOf b k = place S w (b % w) (b / w) k
 
-  abbrev drawn : List ℕ → ℕ → List ℕ
+  abbrev pub drawn : List ℕ → ℕ → List ℕ
   drawn picture b = S .draw w h picture (b % w) (b / w)
 
   -- each block that is not stale shows the words of the picture
@@ -77,37 +77,67 @@ module _ (S : Screen) (L : Lawful S) (w h : ℕ) where
       put-other b (suc k) xs (set out (spotOf S w h b k) x) i (λ j l u. f j (omega arith) (omega arith))
       ∙ getD-set-other out (spotOf S w h b k) i x 0 (f k (omega arith) (omega arith))
 
-  put-same : (b k : ℕ) (xs out : List ℕ) (j : ℕ) → b < w * h → length out ≡ blockWords S * (w * h) → k + length xs ≤ blockWords S → j < length xs
+  put-same : (b k : ℕ) (xs out : List ℕ) (j : ℕ) → b < w * h → blockWords S * (w * h) ≤ length out → k + length xs ≤ blockWords S → j < length xs
       → getD (putWords S w h (b % w) (b / w) k xs out) (spotOf S w h b (k + j)) 0 ≡ getD xs j 0
   put-same b k [] out j l n f u = absurd (not-suc-le-zero u)
   put-same b k (x ∷ xs) out zero l n f u =
       let i = spotOf S w h b k in
-      let low : i < length out = subst (λ (m : ℕ). i < m) (sym n) (spot-below b k l (omega arith)) in
+      let low : i < length out = omega (arith, spot-below b k l (omega arith)) in
       ap (λ (m : ℕ). getD (putWords S w h (b % w) (b / w) k (x ∷ xs) out) (spotOf S w h b m) 0) (add-zero k)
       ∙ put-other b (suc k) xs (set out i x) i (λ m a v e. omega (arith, same-spot b k b m l l (omega arith) (omega arith) e .1))
       ∙ getD-set-same out i x 0 low
   put-same b k (x ∷ xs) out (suc j) l n f u =
       let i = spotOf S w h b k in
       ap (λ (m : ℕ). getD (putWords S w h (b % w) (b / w) k (x ∷ xs) out) (spotOf S w h b m) 0) (add-suc k j ∙ sym (suc-add k j))
-      ∙ put-same b (suc k) xs (set out i x) j l (length-set out i x ∙ n) (omega arith) (le-of-suc-le-suc u)
+      ∙ put-same b (suc k) xs (set out i x) j l (omega (arith, length-set out i x)) (omega arith) (le-of-suc-le-suc u)
 
   -- ---- one block drawn, and then some
 
+  -- word k of block b, once block c is drawn
+  pub put-at : (picture : List ℕ) (c : ℕ) (out : List ℕ) (b k : ℕ) → c < w * h → blockWords S * (w * h) ≤ length out → b < w * h → k < blockWords S
+      → getD (putBlock S w h picture c out) (spotOf S w h b k) 0 ≡ cond (eqb b c) (getD (drawn S w h picture b) k 0) (getD out (spotOf S w h b k) 0)
+  put-at picture c out b k l ol l′ m = by-block (ℕ-discrete b c)
+    where
+      n : length (drawn S w h picture c) ≡ blockWords S
+      n = L .draw-length w h picture (c % w) (c / w)
+
+      by-test : (t : Bool) → eqb b c ≡ t
+          → cond t (getD (drawn S w h picture b) k 0) (getD out (spotOf S w h b k) 0)
+          ≡ cond (eqb b c) (getD (drawn S w h picture b) k 0) (getD out (spotOf S w h b k) 0)
+      by-test t e = ap (λ (t : Bool). cond t (getD (drawn S w h picture b) k 0) (getD out (spotOf S w h b k) 0)) (sym e)
+
+      by-block : Dec (b ≡ c)
+          → getD (putBlock S w h picture c out) (spotOf S w h b k) 0 ≡ cond (eqb b c) (getD (drawn S w h picture b) k 0) (getD out (spotOf S w h b k) 0)
+      by-block (yes q) =
+          subst (λ (d : ℕ). getD (putBlock S w h picture c out) (spotOf S w h d k) 0 ≡ getD (drawn S w h picture d) k 0) (sym q)
+          (ap (λ (m : ℕ). getD (putBlock S w h picture c out) (spotOf S w h c m) 0) (sym (zero-add k))
+          ∙ put-same c 0 (drawn S w h picture c) out k l ol (omega (arith, n)) (omega (arith, n)))
+          ∙ by-test true (eq-eqb b c q)
+      by-block (no q) =
+          put-other c 0 (drawn S w h picture c) out (spotOf S w h b k) (λ j a u f. q (same-spot b k c j l′ l m (omega (arith, n)) f .0))
+          ∙ by-test false (ne-eqb b c q)
+
+  -- past the blocks the output stays
+  pub put-past : (picture : List ℕ) (c : ℕ) (out : List ℕ) (i : ℕ) → c < w * h → blockWords S * (w * h) ≤ i
+      → getD (putBlock S w h picture c out) i 0 ≡ getD out i 0
+  put-past picture c out i l far =
+      put-other c 0 (drawn S w h picture c) out i
+      (λ j a u e. omega (arith, e, spot-below c j l (omega (arith, L .draw-length w h picture (c % w) (c / w)))))
+
   shown-one : (picture : List ℕ) (stale : List Bool) (output : List ℕ) (b : ℕ) → b < w * h → length output ≡ blockWords S * (w * h)
       → Shown S w h picture stale output → Shown S w h picture (set stale b false) (putBlock S w h picture b output)
-  shown-one picture stale output b l ol good b′ k l′ e m = by-block (ℕ-discrete b′ b)
+  shown-one picture stale output b l ol good b′ k l′ e m = put-at picture b output b′ k l (omega (arith, ol)) l′ m ∙ by-block (ℕ-discrete b′ b)
     where
-      n : length (drawn S w h picture b) ≡ blockWords S
-      n = L .draw-length w h picture (b % w) (b / w)
+      now : ℕ
+      now = getD (drawn S w h picture b′) k 0
 
-      by-block : Dec (b′ ≡ b) → getD (putBlock S w h picture b output) (spotOf S w h b′ k) 0 ≡ getD (drawn S w h picture b′) k 0
-      by-block (yes q) =
-          subst (λ (c : ℕ). getD (putBlock S w h picture b output) (spotOf S w h c k) 0 ≡ getD (drawn S w h picture c) k 0) (sym q)
-          (ap (λ (m : ℕ). getD (putBlock S w h picture b output) (spotOf S w h b m) 0) (sym (zero-add k))
-          ∙ put-same b 0 (drawn S w h picture b) output k l ol (omega (arith, n)) (omega (arith, n)))
+      old : ℕ
+      old = getD output (spotOf S w h b′ k) 0
+
+      by-block : Dec (b′ ≡ b) → cond (eqb b′ b) now old ≡ now
+      by-block (yes q) = ap (λ (t : Bool). cond t now old) (eq-eqb b′ b q)
       by-block (no q) =
-          put-other b 0 (drawn S w h picture b) output (spotOf S w h b′ k) (λ j a u f. q (same-spot b′ k b j l′ l m (omega (arith, n)) f .0))
-          ∙ good b′ k l′ (sym (getD-set-other stale b b′ false true q) ∙ e) m
+          ap (λ (t : Bool). cond t now old) (ne-eqb b′ b q) ∙ good b′ k l′ (sym (getD-set-other stale b b′ false true q) ∙ e) m
 
   shown-all : (picture bs : List ℕ) (stale : List Bool) (output : List ℕ) → Below (w * h) bs → length output ≡ blockWords S * (w * h)
       → Shown S w h picture stale output → Shown S w h picture (setAll bs false stale) (putAll S w h picture bs output)

@@ -8,5 +8,7 @@ pub mod Theorem
 pub mod Words
 pub mod Loops
 pub mod Box
+pub mod Order
+pub mod Swept
 pub mod Ends
 pub mod Scaled

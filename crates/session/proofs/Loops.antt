@@ -1,5 +1,5 @@
 -- One turn of each loop over the marks: what is left to do, done from here, gives what the whole gives from the start. Assumes nothing.
-use mathlib.Core.Path.{_≡_, refl, sym, ap, ap₂, _∙_}
+use mathlib.Core.Path.{_≡_, refl, sym, ap, ap₂, _∙_, subst}
 use mathlib.Core.Bool.{Bool, true, false, not}
 use mathlib.Core.List.{List, [], _∷_, _++_, map}
 use Prim.Native.Nat.{ℕ, suc, _+_, _-_, _*_, _≤_, _<_, min}
@@ -13,9 +13,9 @@ use Rattle.session.specs.Lists.{setAll, count, firstFrom}
 use Rattle.session.specs.Screen.{Screen}
 use Rattle.session.specs.Machine.{putBlock, putAll}
 use Rattle.session.specs.Calls.{isStale}
-use Rattle.session.specs.Steps.{staleIn, chosen, Draws, blocksFrom, DrawsRun}
+use Rattle.session.specs.Steps.{staleIn, chosen, Draws, blocksFrom, tileBlocks, DrawsAll}
 use Rattle.session.proofs.Lists.{Below, length-setAll, firstFrom-below, firstFrom-append, firstFrom-length, firstFrom-min, first-none, first-false, first-replicate}
-use Rattle.session.proofs.Lists.{count-le, count-append, count-replicate, slice-split, table-snoc, map-append}
+use Rattle.session.proofs.Lists.{count-le, all-true, count-append, count-replicate, slice-split, table-snoc, map-append}
 use Rattle.session.proofs.Good.{length-putAll}
 
 -- ---- a count
@@ -46,9 +46,12 @@ count-one i j m q l = ap count (stale-one i j m q l)
 pub count-none : (i : ℕ) (m : List ℕ) → count (staleIn i i m) ≡ 0
 count-none i m = ap (λ (l : List ℕ). count (map isStale l)) (slice-empty i m)
 
+pub length-stale : (i j : ℕ) (m : List ℕ) → j ≤ length m → length (staleIn i j m) ≡ j - i
+length-stale i j m h = length-map (slice i j m) isStale ∙ length-slice i j m h
+
 -- a run has no more stale blocks than blocks
 pub count-run-le : (i j : ℕ) (m : List ℕ) → j ≤ length m → count (staleIn i j m) ≤ j - i
-count-run-le i j m h = omega (arith, count-le (staleIn i j m), length-map (slice i j m) isStale, length-slice i j m h)
+count-run-le i j m h = omega (arith, count-le (staleIn i j m), length-stale i j m h)
 
 -- ---- the first n stale blocks of a run, in two runs
 
@@ -67,7 +70,7 @@ chosen-split : (i j k n : ℕ) (m : List ℕ) → i ≤ j → j ≤ k → k ≤ 
     → chosen i k n m ≡ chosen i j n m ++ chosen j k (n - length (chosen i j n m)) (setAll (chosen i j n m) 0 m)
 chosen-split i j k n m a b l =
     let bs = chosen i j n m in
-    let e : i + length (staleIn i j m) ≡ j = omega (arith, length-map (slice i j m) isStale, length-slice i j m (omega arith)) in
+    let e : i + length (staleIn i j m) ≡ j = omega (arith, length-stale i j m (omega arith)) in
     let low : Below j bs = firstFrom-below i n (staleIn i j m) j (omega (arith, e)) in
     ap (firstFrom i n) (stale-split i j k m a b) ∙ firstFrom-append i n (staleIn i j m) (staleIn j k m)
     ∙ ap₂ (λ (c : ℕ) (l : List ℕ). bs ++ firstFrom c (n - length bs) (map isStale l)) e (sym (slice-setAll j k bs m low b))
@@ -83,6 +86,18 @@ run-more i k m e l t =
     stale-split i (i + k) (i + (k + 1)) m (omega arith) (omega arith)
     ∙ ap₂ {C = List Bool} _++_ e (stale-one (i + k) (i + (k + 1)) m q l ∙ ap {B = List Bool} (λ t. t ∷ []) t)
     ∙ replicate-append-replicate k 1 true
+
+-- a run that has as many stale blocks as blocks, and the first row of a tile
+pub run-counted : (i k : ℕ) (m : List ℕ) → i + k ≤ length m → count (staleIn i (i + k) m) ≡ k → staleIn i (i + k) m ≡ replicate k true
+run-counted i k m l e =
+    let n : length (staleIn i (i + k) m) ≡ k = omega (arith, length-stale i (i + k) m l) in
+    all-true (staleIn i (i + k) m) (e ∙ sym n) ∙ ap (λ (n : ℕ). replicate n true) n
+
+pub row-first : (w x y k : ℕ) (m : List ℕ) → staleIn (y * w + x) (y * w + x + k) m ≡ replicate k true
+    → (j : ℕ) → j < 1 → staleIn ((y + j) * w + x) ((y + j) * w + x + k) m ≡ replicate k true
+row-first w x y k m e j l =
+    let q : y + j ≡ y = omega arith in
+    ap (λ (n : ℕ). staleIn (n * w + x) (n * w + x + k) m) q ∙ e
 
 -- all of them are chosen, where as many are asked for
 pub run-chosen : (i j k n : ℕ) (m : List ℕ) → j ≡ i + k → staleIn i (i + k) m ≡ replicate k true → k ≤ n → chosen i j n m ≡ blocksFrom i k
@@ -126,25 +141,38 @@ setAll-two : (bs cs m : List ℕ) → setAll (bs ++ cs) 0 m ≡ setAll cs 0 (set
 setAll-two [] cs m = refl
 setAll-two (b ∷ bs) cs m = setAll-two bs cs (set m b 0)
 
--- a run of blocks drawn one after the other
-module _ (S : Screen) (w h b : ℕ) (picture out₀ m₀ : List ℕ) where
-  pub run-none : DrawsRun S w h b 0 picture out₀ m₀ out₀ m₀
-  run-none = record { output-now = refl; marks-now = refl }
+-- lists of blocks drawn one after the other
+module _ (S : Screen) (w h : ℕ) (picture : List ℕ) where
+  pub draws-none : (out m : List ℕ) → DrawsAll S w h [] picture out m out m
+  draws-none out m = record { output-now = refl; marks-now = refl }
 
-  pub run-drawn : {out m : List ℕ} (i : ℕ) → DrawsRun S w h b i picture out₀ m₀ out m → (out′ m′ : List ℕ)
-      → out′ ≡ putBlock S w h (take (w * h) picture) (b + i) out → m′ ≡ set m (b + i) 0 → DrawsRun S w h b (i + 1) picture out₀ m₀ out′ m′
-  run-drawn {out} {m} i k out′ m′ eo em =
-      let e : blocksFrom b i ++ ((b + i) ∷ []) ≡ blocksFrom b (i + 1) =
-      sym (table-snoc i (λ j. b + j)) ∙ ap (blocksFrom b) (sym (add-one i)) in
-      record {
-        output-now =
-            eo ∙ ap (putBlock S w h (take (w * h) picture) (b + i)) (k .output-now)
-            ∙ sym (putAll-two S w h (take (w * h) picture) (blocksFrom b i) ((b + i) ∷ []) out₀)
-            ∙ ap (λ (bs : List ℕ). putAll S w h (take (w * h) picture) bs out₀) e;
-        marks-now =
-            em ∙ ap (λ (l : List ℕ). set l (b + i) 0) (k .marks-now) ∙ sym (setAll-two (blocksFrom b i) ((b + i) ∷ []) m₀)
-            ∙ ap (λ (bs : List ℕ). setAll bs 0 m₀) e;
-      }
+  pub draws-two : {bs cs out m out′ m′ out″ m″ : List ℕ} → DrawsAll S w h bs picture out m out′ m′ → DrawsAll S w h cs picture out′ m′ out″ m″
+      → DrawsAll S w h (bs ++ cs) picture out m out″ m″
+  draws-two {bs} {cs} {out} {m} k l = record {
+    output-now =
+        l .output-now ∙ ap (putAll S w h (take (w * h) picture) cs) (k .output-now) ∙ sym (putAll-two S w h (take (w * h) picture) bs cs out);
+    marks-now = l .marks-now ∙ ap (setAll cs 0) (k .marks-now) ∙ sym (setAll-two bs cs m);
+  }
+
+  module _ {bs out m out′ m′ : List ℕ} (k : DrawsAll S w h bs picture out m out′ m′) where
+    pub draws-output-length : length out′ ≡ length out
+    draws-output-length = ap length (k .output-now) ∙ length-putAll S w h (take (w * h) picture) bs out
+
+    pub draws-marks-length : length m′ ≡ length m
+    draws-marks-length = ap length (k .marks-now) ∙ length-setAll bs 0 m
+
+  -- one more block of a run, and one more row of a tile
+  pub run-drawn : {out₀ m₀ out m : List ℕ} (b i : ℕ) → DrawsAll S w h (blocksFrom b i) picture out₀ m₀ out m → (out′ m′ : List ℕ)
+      → out′ ≡ putBlock S w h (take (w * h) picture) (b + i) out → m′ ≡ set m (b + i) 0 → DrawsAll S w h (blocksFrom b (i + 1)) picture out₀ m₀ out′ m′
+  run-drawn {out₀} {m₀} {out} {m} b i k out′ m′ eo em =
+      let one : DrawsAll S w h ((b + i) ∷ []) picture out m out′ m′ = record { output-now = eo; marks-now = em } in
+      subst (λ (bs : List ℕ). DrawsAll S w h bs picture out₀ m₀ out′ m′)
+      (sym (table-snoc i (λ j. b + j)) ∙ ap (blocksFrom b) (sym (add-one i))) (draws-two k one)
+
+  pub row-drawn : {out₀ m₀ out m out′ m′ : List ℕ} (x y k j : ℕ) → DrawsAll S w h (tileBlocks w x y k j) picture out₀ m₀ out m
+      → DrawsAll S w h (blocksFrom ((y + j) * w + x) k) picture out m out′ m′ → DrawsAll S w h (tileBlocks w x y k (j + 1)) picture out₀ m₀ out′ m′
+  row-drawn {out₀} {m₀} {out} {m} {out′} {m′} x y k j d e =
+      subst (λ (r : ℕ). DrawsAll S w h (tileBlocks w x y k r) picture out₀ m₀ out′ m′) (sym (add-one j)) (draws-two d e)
 
 module _ (S : Screen) (w h lo hi n : ℕ) (picture out₀ m₀ : List ℕ) where
   pub record Work (out m : List ℕ) (d i : ℕ) : Type 0 where

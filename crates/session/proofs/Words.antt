@@ -2,20 +2,21 @@
 use mathlib.Core.Path.{_≡_, refl, sym, ap, ap₂, _∙_}
 use mathlib.Core.List.{List, [], _∷_}
 use Prim.Native.Nat.{ℕ, zero, suc, _+_, _*_, _≤_, _<_}
-use native.Mathlib.Nat.{add-mul, mul-le-mul, zero-add, add-zero}
+use native.Mathlib.Nat.{add-mul, mul-le-mul}
 use native.Mathlib.Omega.{arith}
-use lib.ListN.{length, getD, set, take}
+use lib.ListN.{length, getD, set, take, drop, length-drop}
+use lib.Seq.{take-all}
 use lib.Arith.{digits-div, digits-mod}
 use Rattle.picture.specs.Picture.{words}
-use Rattle.picture.specs.Fill.{put, flat, within, length-put, length-flat, getD-put, getD-flat}
+use Rattle.picture.specs.Fill.{chunk}
 use Rattle.tag.specs.declared.Tags.{Tags}
-use Rattle.field.specs.Grid.{ofTags, tagsAt, rowOf}
+use Rattle.field.specs.Grid.{tagsAt}
 use Rattle.block.specs.Block.{pictureTags, blockFrom, blockOf}
-use Rattle.block.specs.Window.{runOf}
+use Rattle.block.specs.Window.{Tile, TileTagged}
 use Rattle.session.specs.Lists.{table}
 use Rattle.session.specs.Screen.{place}
 use Rattle.session.specs.Machine.{putWords, putBlock, blockAt}
-use Rattle.session.specs.Steps.{rowsAt, RunTags}
+use Rattle.session.specs.Steps.{rowsAt, RunTags, TileTags}
 use Rattle.session.specs.Three.{draw3, screen3}
 use Rattle.session.proofs.Places.{spot-lt}
 use Rattle.session.proofs.Three.{drawn-from}
@@ -86,32 +87,20 @@ put-tagged w h bx by b p t out x y eb e =
     ∙ ap₂ (λ (c r : ℕ). putWords screen3 w h c r 0 (draw3 w h (take (w * h) p) c r) out) (sym (digits-mod by x)) (sym (digits-div by x))
     ∙ ap (λ (b : ℕ). putBlock screen3 w h (take (w * h) p) b out) (sym eb)
 
--- the tags of a run, as they were stored
-pub run-tags : (w h x y k : ℕ) (p old tags : List ℕ) → k * 4 ≤ length old
-    → tags ≡ put 0 (rowOf ofTags (runOf x y k) (pictureTags w h (words w p)) y) old → RunTags w h p x y k tags
-unfolding rowOf tagsAt
-run-tags w h x y k p old tags l e = record { long = long; each = each }
-  where
-    row : List ℕ
-    row = flat k (λ i. ofTags (pictureTags w h (words w p) (x + i) y))
+-- the tags of row j of a tile
+pub row-tags : (w h x y k r : ℕ) (p tags : List ℕ) → TileTags w h p x y k r tags → (j : ℕ) → j < r → RunTags w h p x (y + j) k tags (j * k * 4)
+row-tags w h x y k r p tags t j l = record {
+  long = omega (arith, chunk j r k l, t .long);
+  each = λ i m. let q : j * k * 4 + i * 4 ≡ (j * k + i) * 4 = omega arith in ap (tagsAt tags) q ∙ t .each i j m l;
+}
 
-    row-length : length row ≡ k * 4
-    row-length = length-flat 4 (λ i. ofTags (pictureTags w h (words w p) (x + i) y)) (λ i. refl) k
-
-    long : k * 4 ≤ length tags
-    long = omega (arith, ap length e ∙ length-put 0 row old (omega (arith, row-length)))
-
-    at : (j c : ℕ) → j < k → c < 4 → getD tags (j * 4 + c) 0 ≡ getD (ofTags (pictureTags w h (words w p) (x + j) y)) c 0
-    at j c hj hc =
-        ap (λ (l : List ℕ). getD l (j * 4 + c) 0) e
-        ∙ ap (λ (i : ℕ). getD (put 0 row old) i 0) (sym (zero-add (j * 4 + c)))
-        ∙ getD-put 0 row old (j * 4 + c) 0 (omega (arith, row-length, within j k c 4 hj hc)) (omega arith)
-        ∙ getD-flat 4 (λ i. ofTags (pictureTags w h (words w p) (x + i) y)) (λ i. refl) k j c 0 hj hc
-
-    each : (j : ℕ) → j < k → tagsAt tags (j * 4) ≡ pictureTags w h (words w p) (x + j) y
-    each j hj = λ i. record {
-      t0 = (ap (λ (n : ℕ). getD tags n 0) (sym (add-zero (j * 4))) ∙ at j 0 hj (omega arith)) i;
-      t1 = at j 1 hj (omega arith) i;
-      t2 = at j 2 hj (omega arith) i;
-      t3 = at j 3 hj (omega arith) i;
+-- the tags of a tile, as `tags_tile` leaves them
+pub tile-tags : (w h x y k r : ℕ) (p b b′ : List ℕ) → TileTagged w h (words w p) x y k r b b′ → Tile w h x y k r → length b ≡ 1744
+    → TileTags w h p x y k r (take 512 (drop 1232 b′))
+tile-tags w h x y k r p b b′ t m e =
+    let n : length (drop 1232 b′) ≡ 512 = omega (arith, length-drop 1232 b′, t .long) in
+    let s : take 512 (drop 1232 b′) ≡ drop 1232 b′ = take-all 512 (drop 1232 b′) (omega (arith, n)) in
+    record {
+      long = omega (arith, ap length s, n, mul-le-mul (m .few-rows) (m .few-columns));
+      each = λ i j c d. ap (λ (l : List ℕ). tagsAt l ((j * k + i) * 4)) s ∙ t .each i j c d;
     }

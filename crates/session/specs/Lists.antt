@@ -1,7 +1,8 @@
 -- Operations on lists, for the machine and the calls. Definitions only.
-use mathlib.Core.Bool.{Bool, true, false, cond}
+use mathlib.Core.Bool.{Bool, true, false, cond, _||_}
 use mathlib.Core.List.{List, [], _∷_}
 use Prim.Native.Nat.{ℕ, zero, suc}
+use lib.Dec.{eqb}
 use lib.ListN.{set}
 
 module _ {ℓ} {A : Type ℓ} where
@@ -22,6 +23,11 @@ module _ {ℓ} {A : Type ℓ} where
   abbrev pub setAll : List ℕ → A → List A → List A
   setAll [] v l = l
   setAll (b ∷ bs) v l = setAll bs v (set l b v)
+
+-- whether i is one of some indices
+abbrev pub has : List ℕ → ℕ → Bool
+has [] i = false
+has (b ∷ bs) i = has bs i || eqb i b
 
 -- how many are true
 abbrev pub count : List Bool → ℕ

@@ -17,6 +17,8 @@ mod draw;
 mod marks;
 mod output;
 mod refuse;
+mod sweep;
+mod tile;
 
 // The header: the picture's width and height.
 pub struct Session {

@@ -1,14 +1,16 @@
 // The marks: a byte for each block, 0 for not stale and any other for stale.
+use block::ROWS;
 use field::place::least;
 use field::place::less;
 ghost use mathlib.Core.Path.{_≡_};
 ghost use mathlib.Core.List.{[], _∷_};
 ghost use Prim.Native.Nat.{_+_, _*_, _<_, _≤_, min};
+ghost use lib.Dec.{eqb};
 ghost use lib.ListN.{length, getD};
 ghost use Rattle.session.specs.Lists.{count, stamp};
 ghost use Rattle.session.specs.Machine.{names};
 ghost use Rattle.session.specs.Calls.{isStale};
-ghost use Rattle.session.specs.Steps.{run, staleIn, StaleRun};
+ghost use Rattle.session.specs.Steps.{run, staleIn, StaleRun, StaleTile, TileStart};
 ghost use Rattle.session.specs.Three.{screen3};
 
 // 1 for a stale block, 0 for another.
@@ -21,10 +23,10 @@ fn one_if_stale(mark: u8) -> u8
     0
 }
 
-// How many of the marks lo to hi - 1 are stale, of at most 240: a byte holds the count, so that the compiler takes many
+// How many of the marks lo to hi - 1 are stale, of at most 224: a byte holds the count, so that the compiler takes 32
 // marks at a time.
 fn count_run(marks: &[u8], lo: usize, hi: usize) -> u8
-    requires { ⌜ (lo ≤ hi) × ((hi ≤ lo + 240) × (hi ≤ length (now marks))) ⌝ }
+    requires { ⌜ (lo ≤ hi) × ((hi ≤ lo + 224) × (hi ≤ length (now marks))) ⌝ }
     ensures { λ r. ⌜ r ≡ count (staleIn lo hi (now (marks .entry))) ⌝ }
 {
     let mut c: u8 = 0;
@@ -39,12 +41,12 @@ fn count_run(marks: &[u8], lo: usize, hi: usize) -> u8
 // Where the run of marks that is counted from i ends.
 fn run_end(i: usize, hi: usize) -> usize
     requires { ⌜ i ≤ hi ⌝ }
-    ensures { λ r. ⌜ r ≡ min (i + 240) hi ⌝ }
+    ensures { λ r. ⌜ r ≡ min (i + 224) hi ⌝ }
 {
-    if hi - i < 240 {
+    if hi - i < 224 {
         return hi;
     }
-    i + 240
+    i + 224
 }
 
 // How many of the marks lo to hi - 1 are stale.
@@ -72,6 +74,28 @@ pub fn stale_run(marks: &[u8], i: usize, most: u32) -> u32
         k += 1;
     }
     k
+}
+
+// Whether the k blocks from (x, y) on are all stale.
+fn row_stale(marks: &[u8], w: u32, x: u32, y: u32, k: u32) -> bool
+    requires { ⌜ (y * w + x + k ≤ 4194304) × (y * w + x + k ≤ length (now marks)) ⌝ }
+    ensures { λ r. ⌜ r ≡ eqb (count (staleIn (y * w + x) (y * w + x + k) (now (marks .entry)))) k ⌝ }
+{
+    let i = (y as usize) * (w as usize) + (x as usize);
+    count_stale(marks, i, i + (k as usize)) == k
+}
+
+// How many rows from y on, as far as a tile goes, have all k blocks from column x on stale; row y is one of them.
+pub fn tile_rows(marks: &[u8], w: u32, h: u32, x: u32, y: u32, k: u32) -> u32
+    requires { ⌜ TileStart w h x y k (now marks) ⌝ }
+    ensures { λ r. ⌜ StaleTile w h x y k (now (marks .entry)) r ⌝ }
+{
+    let most = least(ROWS, h - y);
+    let mut r: u32 = 1;
+    while r < most && row_stale(marks, w, x, y + r, k) {
+        r += 1;
+    }
+    r
 }
 
 // Marks lo to hi - 1 made stale.

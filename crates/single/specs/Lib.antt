@@ -4,4 +4,3 @@ pub mod Near
 pub mod Laws
 pub mod Floats
 pub mod RootTheorems
-pub mod Table

@@ -9,8 +9,8 @@ use lib.Dec.{ltb, eqb, lit≤}
 use borrow.Author.Tests.{ltb-true, ltb-false, le-ltb, eqb-true}
 use lib.ListN.{length, take, drop, length-drop}
 use lib.Seq.{take-all}
-use Rattle.field.specs.declared.grid.Grid.{Grid}
-use Rattle.field.specs.Room.{Held, Inner, Feeds}
+use Rattle.field.specs.Room.{Feeds}
+use Rattle.block.specs.Window.{Rooms}
 use Rattle.whole.specs.Laws.{gridOf}
 use Rattle.picture.specs.Fill.{put}
 use Rattle.whole.specs.Calls.{refusalOf, filled}
@@ -45,20 +45,33 @@ within-small side w h n l e = go (ltb side w || ltb side h) refl e
         let m : w * h ≤ 2048 * 2048 = mul-le-mul x y in
         omega arith
 
-pub whole-feeds : {a b w h : ℕ} {g : Grid} → g ≡ gridOf w h → Feeds a b g w h g
-whole-feeds e = rw e (record { columns = omega arith; lines = omega arith; left = omega arith; right = omega arith; above = omega arith; below = omega arith })
+pub cut-room : (w h n : ℕ) → 8 * (w * h) ≤ n → h * (w * 4) + h * (w * 4) ≤ n
+cut-room w h n l = omega (arith, mul-assoc h w 4, mul-comm h w)
 
-pub whole-held : {w h n : ℕ} {g : Grid} → g ≡ gridOf w h → h * (w * 4) ≤ n → Held g n
-whole-held e l = rw e l
+whole-feeds : (a w h : ℕ) → Feeds a a (gridOf w h) w h (gridOf w h)
+whole-feeds a w h = record { columns = omega arith; lines = omega arith; left = omega arith; right = omega arith; above = omega arith; below = omega arith }
+
+-- the whole picture is a rectangle that holds what each pass reads
+pub whole-rooms : (w h p s b : ℕ) → w * h ≤ p → 8 * (w * h) ≤ s → 8 * (w * h) ≤ b
+    → Rooms w h (gridOf w h) (gridOf w h) (gridOf w h) (gridOf w h) (h * (w * 4)) (h * (w * 4)) p s b
+whole-rooms w h p s b hp hs hb = record {
+  picture = hp;
+  metrics-on = record { columns = omega arith; lines = omega arith };
+  to-weights = whole-feeds 1 w h;
+  to-junctions = whole-feeds 1 w h;
+  over-junctions = whole-feeds 1 w h;
+  to-tags = whole-feeds 3 w h;
+  metrics-room = omega arith;
+  weights-room = cut-room w h s hs;
+  junctions-room = omega arith;
+  tags-room = cut-room w h b hb;
+}
 
 pub whole-rest : {E : Type 0} (cut : ℕ) (l : List E) → take (length l - cut) (drop cut l) ≡ drop cut l
 whole-rest cut l = take-all (length l - cut) (drop cut l) (omega (arith, length-drop cut l))
 
 pub rest-long : {E : Type 0} (cut n : ℕ) (l : List E) → cut + n ≤ length l → n ≤ length (take (length l - cut) (drop cut l))
 rest-long cut n l h = rw (whole-rest cut l) (omega (arith, length-drop cut l))
-
-pub cut-room : (w h n : ℕ) → 8 * (w * h) ≤ n → h * (w * 4) + h * (w * 4) ≤ n
-cut-room w h n l = omega (arith, mul-assoc h w 4, mul-comm h w)
 
 pub out-room : (w h n : ℕ) → 9 * (w * h) ≤ n → h * (9 * w) ≤ n
 out-room w h n l = omega (arith, mul-left-comm h 9 w, mul-comm h w)

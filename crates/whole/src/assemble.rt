@@ -1,13 +1,11 @@
 // The output's words, block by block, from the tags of all pixels.
-use tag::Tags;
+use field::grid::load_tags;
 ghost use mathlib.Core.Path.{_≡_};
 ghost use mathlib.Core.List.{[], _∷_};
 ghost use Prim.Native.Nat.{ℕ, _+_, _-_, _*_, _<_, _≤_};
 ghost use lib.ListN.{length, getD};
 ghost use Rattle.picture.specs.Picture.{words};
 ghost use Rattle.picture.specs.Fill.{put, flat};
-ghost use Rattle.field.specs.Grid.{tagsAt};
-ghost use Rattle.block.specs.Block.{blockFrom};
 ghost use Rattle.whole.specs.Whole.{third, rowsOf};
 ghost use Rattle.whole.specs.Laws.{putBlock, taggedBlock};
 
@@ -31,19 +29,6 @@ fn store_block(out: &mut [u32], ow: usize, at: usize, b: [u32; 9])
     store3(out, at + 2 * ow, b[6], b[7], b[8]);
 }
 
-// The tags that start at element i.
-fn load_tags(s: &[u8], i: usize) -> Tags
-    requires { ⌜ i + 4 ≤ length (now s) ⌝ }
-    ensures { λ r. ⌜ r ≡ tagsAt (now (s .entry)) i ⌝ }
-{
-    Tags {
-        t0: s[i],
-        t1: s[i + 1],
-        t2: s[i + 2],
-        t3: s[i + 3],
-    }
-}
-
 // The blocks of row y: three output rows from element `at` on. The row's tags start at element `from`.
 fn assemble_row(
     picture: &[u32],
@@ -56,7 +41,8 @@ fn assemble_row(
     at: usize,
 )
     requires { ⌜ (from + w * 4 ≤ length (now tags)) × (at + 9 * w ≤ length (now output)) ⌝ }
-    ensures { λ _. ⌜ now (output .exit) ≡ put at (rowsOf w (taggedBlock w h (words w (now (picture .entry))) (now (tags .entry)) from y)) (now (output .entry)) ⌝ }
+    ensures { λ _. ⌜ now (output .exit)
+        ≡ put at (rowsOf w (taggedBlock w h (words w (now (picture .entry))) (now (tags .entry)) from y)) (now (output .entry)) ⌝ }
 {
     let ow = 3 * (w as usize);
     let mut x: u32 = 0;
@@ -74,7 +60,8 @@ fn assemble_row(
 // The blocks of all rows, from the front of the output on.
 pub fn assemble_3x(picture: &[u32], w: u32, h: u32, tags: &[u8], output: &mut [u32])
     requires { ⌜ (h * (w * 4) ≤ length (now tags)) × (h * (9 * w) ≤ length (now output)) ⌝ }
-    ensures { λ _. ⌜ now (output .exit) ≡ put 0 (flat h (λ y. rowsOf w (taggedBlock w h (words w (now (picture .entry))) (now (tags .entry)) (y * (w * 4)) y))) (now (output .entry)) ⌝ }
+    ensures { λ _. ⌜ now (output .exit) ≡ put 0 (flat h (λ y. rowsOf w
+        (taggedBlock w h (words w (now (picture .entry))) (now (tags .entry)) (y * (w * 4)) y))) (now (output .entry)) ⌝ }
 {
     let row = 4 * (w as usize);
     let rows = 9 * (w as usize);

@@ -1,17 +1,12 @@
 // Whole pictures: three-times and nine-times, into buffers that the caller lends.
 use assemble::assemble_3x;
+use block::passes;
 use field::grid::Grid;
-use field::junctions_rect;
-use field::metrics_rect;
-use field::tags_rect;
-use field::weights_rect;
 ghost use mathlib.Core.Path.{_≡_};
 ghost use Prim.Native.Nat.{ℕ, _+_, _-_, _*_, _<_, _≤_};
 ghost use lib.ListN.{length, drop};
 ghost use Rattle.picture.specs.Picture.{words};
 ghost use Rattle.picture.specs.Fill.{put, flat};
-ghost use Rattle.junction.specs.Junction.{junctions};
-ghost use Rattle.field.specs.Grid.{ofJunctions, metricField, weightsField, rectOf};
 ghost use Rattle.whole.specs.Whole.{rowsOf};
 ghost use Rattle.whole.specs.Calls.{refusalOf, Scales, Scales9};
 ghost use Rattle.whole.specs.Laws.{gridOf, taggedBlock};
@@ -68,19 +63,11 @@ fn words_of(side: u32, w: u32, h: u32) -> usize
     (w as usize) * (h as usize)
 }
 
-// The junctions of the whole picture, from its metrics at the front of the singles and its weights from `cut` on.
-fn junctions_whole(singles: &[f32], cut: usize, g: Grid, w: u32, h: u32, bytes: &mut [u8])
-    requires { ⌜ (g ≡ gridOf w h) × ((cut ≡ h * (w * 4)) × ((cut + cut ≤ length (now singles)) × (cut ≤ length (now bytes)))) ⌝ }
-    ensures { λ _. ⌜ now (bytes .exit) ≡ put 0 (rectOf ofJunctions g (junctions w h (metricField g (now (singles .entry))) (weightsField g (drop cut (now (singles .entry)))))) (now (bytes .entry)) ⌝ }
-{
-    let s = &singles[cut..];
-    junctions_rect(singles, g, s, g, w, h, g, bytes);
-}
-
 // The blocks of the whole picture, from its tags from `cut` on.
 fn blocks_whole(picture: &[u32], w: u32, h: u32, bytes: &[u8], cut: usize, output: &mut [u32])
     requires { ⌜ (cut ≡ h * (w * 4)) × ((cut + cut ≤ length (now bytes)) × (h * (9 * w) ≤ length (now output))) ⌝ }
-    ensures { λ _. ⌜ now (output .exit) ≡ put 0 (flat h (λ y. rowsOf w (taggedBlock w h (words w (now (picture .entry))) (drop cut (now (bytes .entry))) (y * (w * 4)) y))) (now (output .entry)) ⌝ }
+    ensures { λ _. ⌜ now (output .exit) ≡ put 0 (flat h (λ y. rowsOf w
+        (taggedBlock w h (words w (now (picture .entry))) (drop cut (now (bytes .entry))) (y * (w * 4)) y))) (now (output .entry)) ⌝ }
 {
     let t = &bytes[cut..];
     assemble_3x(picture, w, h, t, output);
@@ -96,7 +83,8 @@ fn enlarge(
     bytes: &mut [u8],
 )
     requires { ⌜ Fits w h (length (now picture)) (length (now output)) (length (now singles)) (length (now bytes)) ⌝ }
-    ensures { λ _. ⌜ Enlarged w h (now (picture .entry)) (now (output .entry)) (now (singles .entry)) (now (bytes .entry)) (now (output .exit)) (now (singles .exit)) (now (bytes .exit)) ⌝ }
+    ensures { λ _. ⌜ Enlarged w h (now (picture .entry)) (now (output .entry)) (now (singles .entry)) (now (bytes .entry))
+        (now (output .exit)) (now (singles .exit)) (now (bytes .exit)) ⌝ }
 {
     let g = Grid {
         x0: 0,
@@ -105,10 +93,7 @@ fn enlarge(
         rows: h,
     };
     let cut = (h as usize) * ((w as usize) * 4);
-    metrics_rect(picture, w, h, g, singles);
-    weights_rect(singles, cut, g, w, h, g);
-    junctions_whole(singles, cut, g, w, h, bytes);
-    tags_rect(bytes, cut, g, w, h, g);
+    passes(picture, w, h, g, g, g, g, singles, cut, bytes, cut);
     blocks_whole(picture, w, h, bytes, cut, output);
 }
 
@@ -121,7 +106,8 @@ pub fn scale(
     singles: &mut [f32],
     bytes: &mut [u8],
 ) -> u32
-    ensures { λ r. ⌜ Scales w h (now (picture .entry)) (now (output .entry)) (now (singles .entry)) (now (bytes .entry)) (now (output .exit)) (now (singles .exit)) (now (bytes .exit)) r ⌝ }
+    ensures { λ r. ⌜ Scales w h (now (picture .entry)) (now (output .entry)) (now (singles .entry)) (now (bytes .entry))
+        (now (output .exit)) (now (singles .exit)) (now (bytes .exit)) r ⌝ }
 {
     let n = words_of(SIDE3, w, h);
     let f = refusal(
@@ -155,7 +141,8 @@ pub fn scale9x(
     singles: &mut [f32],
     bytes: &mut [u8],
 ) -> u32
-    ensures { λ r. ⌜ Scales9 w h (now (picture .entry)) (now (output .entry)) (now (middle .entry)) (now (singles .entry)) (now (bytes .entry)) (now (output .exit)) (now (middle .exit)) (now (singles .exit)) (now (bytes .exit)) r ⌝ }
+    ensures { λ r. ⌜ Scales9 w h (now (picture .entry)) (now (output .entry)) (now (middle .entry)) (now (singles .entry)) (now (bytes .entry))
+        (now (output .exit)) (now (middle .exit)) (now (singles .exit)) (now (bytes .exit)) r ⌝ }
 {
     let n = words_of(SIDE9, w, h);
     let f = refusal(

@@ -1,8 +1,6 @@
--- `block::block_from` meets its contract, word by word. Assumes nothing.
-use mathlib.Core.List.{[], _∷_}
+-- `block::block_from` meets its contract. Assumes nothing.
 use Rattle.picture.specs.Picture.{words}
-use Rattle.block.specs.Block.{blockFrom}
-use Rattle.block.proofs.Parts.{nine-copies}
+use Rattle.block.proofs.Parts.{nine-copies, picked}
 use borrow.Author.Needs.{needs}
 use Rattle.block.proofs.block_from.Statement.{statement}
 use Rattle.block.proofs.block_from.Tie as tie
@@ -36,46 +34,88 @@ returns c =
     let a = c .before .before .before .before .before .before .before .args in
     nine-copies (a .w) (a .h) (words (a .w) (a .picture .now)) (a .x) (a .y) (a .t) _ (c .before .if1 .taken) (c .tag-word .ensures)
 
-tag-word-requires-2 : tie.Need-tag-word-requires-2
-tag-word-requires-2 c κs = search needs
+words-by-tag-requires : tie.Need-words-by-tag-requires
+words-by-tag-requires c κs = search needs
 
-tag-word-requires-3 : tie.Need-tag-word-requires-3
-tag-word-requires-3 c κs = search needs
+cast-t19 : tie.Need-cast-t19
+cast-t19 c = search needs
 
-tag-word-requires-4 : tie.Need-tag-word-requires-4
-tag-word-requires-4 c κs = search needs
+mul-t20 : tie.Need-mul-t20
+mul-t20 c = search needs
 
-tag-word-requires-5 : tie.Need-tag-word-requires-5
-tag-word-requires-5 c κs = search needs
+array-read-t10 : tie.Need-array-read-t10
+array-read-t10 c = search needs
 
-tag-word-requires-6 : tie.Need-tag-word-requires-6
-tag-word-requires-6 c κs = search needs
+cast-t25 : tie.Need-cast-t25
+cast-t25 c = search needs
 
-tag-word-requires-7 : tie.Need-tag-word-requires-7
-tag-word-requires-7 c κs = search needs
+mul-t26 : tie.Need-mul-t26
+mul-t26 c = search needs
 
-tag-word-requires-8 : tie.Need-tag-word-requires-8
-tag-word-requires-8 c κs = search needs
+array-read-t11 : tie.Need-array-read-t11
+array-read-t11 c = search needs
 
-tag-word-requires-9 : tie.Need-tag-word-requires-9
-tag-word-requires-9 c κs = search needs
+cast-t30 : tie.Need-cast-t30
+cast-t30 c = search needs
 
-tag-word-requires-10 : tie.Need-tag-word-requires-10
-tag-word-requires-10 c κs = search needs
+mul-t31 : tie.Need-mul-t31
+mul-t31 c = search needs
+
+array-read-t12 : tie.Need-array-read-t12
+array-read-t12 c = search needs
+
+cast-t36 : tie.Need-cast-t36
+cast-t36 c = search needs
+
+mul-t37 : tie.Need-mul-t37
+mul-t37 c = search needs
+
+array-read-t15 : tie.Need-array-read-t15
+array-read-t15 c = search needs
+
+array-read-t14 : tie.Need-array-read-t14
+array-read-t14 c = search needs
+
+cast-t44 : tie.Need-cast-t44
+cast-t44 c = search needs
+
+mul-t45 : tie.Need-mul-t45
+mul-t45 c = search needs
+
+array-read-t13 : tie.Need-array-read-t13
+array-read-t13 c = search needs
+
+cast-t49 : tie.Need-cast-t49
+cast-t49 c = search needs
+
+mul-t50 : tie.Need-mul-t50
+mul-t50 c = search needs
+
+array-read-t53 : tie.Need-array-read-t53
+array-read-t53 c = search needs
+
+cast-t56 : tie.Need-cast-t56
+cast-t56 c = search needs
+
+mul-t57 : tie.Need-mul-t57
+mul-t57 c = search needs
+
+array-read-t60 : tie.Need-array-read-t60
+array-read-t60 c = search needs
+
+cast-t62 : tie.Need-cast-t62
+cast-t62 c = search needs
+
+mul-t63 : tie.Need-mul-t63
+mul-t63 c = search needs
+
+array-read-t66 : tie.Need-array-read-t66
+array-read-t66 c = search needs
 
 returns-2 : tie.Need-returns-2
-unfolding blockFrom
 returns-2 c =
-    λ i.
-    c .before .before .before .before .before .before .before .before .before .before .before .before .before .before .before .tag-word2 .ensures i ∷
-    c .before .before .before .before .before .before .before .before .before .before .before .before .before .tag-word3 .ensures i ∷
-    c .before .before .before .before .before .before .before .before .before .before .before .tag-word4 .ensures i ∷
-    c .before .before .before .before .before .before .before .before .before .tag-word5 .ensures i ∷
-    c .before .before .before .before .before .before .before .before .tag-word6 .ensures i ∷
-    c .before .before .before .before .before .before .tag-word7 .ensures i ∷
-    c .before .before .before .before .tag-word8 .ensures i ∷
-    c .before .before .tag-word9 .ensures i ∷
-    c .tag-word10 .ensures i ∷ []
+    let a = c .before .before .before .before .before .before .before .before .before .before .before .before .before .before .before .args in
+    picked (a .w) (a .h) (words (a .w) (a .picture .now)) (a .x) (a .y) (a .t) _ (c .before .before .before .before .before .before .before .before .words-by-tag .ensures)
 
 pub block-from-spec : {M : Type 1} → statement M
 block-from-spec =
@@ -90,13 +130,30 @@ block-from-spec =
     add-sum-3
     tag-word-requires
     returns
-    tag-word-requires-2
-    tag-word-requires-3
-    tag-word-requires-4
-    tag-word-requires-5
-    tag-word-requires-6
-    tag-word-requires-7
-    tag-word-requires-8
-    tag-word-requires-9
-    tag-word-requires-10
+    words-by-tag-requires
+    cast-t19
+    mul-t20
+    array-read-t10
+    cast-t25
+    mul-t26
+    array-read-t11
+    cast-t30
+    mul-t31
+    array-read-t12
+    cast-t36
+    mul-t37
+    array-read-t15
+    array-read-t14
+    cast-t44
+    mul-t45
+    array-read-t13
+    cast-t49
+    mul-t50
+    array-read-t53
+    cast-t56
+    mul-t57
+    array-read-t60
+    cast-t62
+    mul-t63
+    array-read-t66
     returns-2)

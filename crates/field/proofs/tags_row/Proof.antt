@@ -11,8 +11,7 @@ use Rattle.picture.specs.Fill.{Filled, fill-none, fill-more, fill-done, fill-ta
 use Rattle.tag.specs.Tag.{tags}
 use Rattle.field.specs.declared.grid.Grid.{Grid}
 use Rattle.field.specs.Grid.{ofTags, junctionsField, rowOf}
-use Rattle.field.specs.Room.{reads-at, held-take, around-less}
-use Rattle.field.specs.Across.{across-one}
+use Rattle.field.specs.Room.{reads-at, held-take}
 use Rattle.field.proofs.tags_row.Statement.{statement}
 use Rattle.field.proofs.tags_row.Tie as tie
 
@@ -32,11 +31,11 @@ loop-holds c =
     let a = c .before .args in
     (omega arith, omega arith, fill-none (a .at) 4 (chunks (take (a .cut) (a .bytes .now)) (a .g) (a .w) (a .h) (a .q .x0) (a .y)) (a .bytes .now) (omega arith))
 
-slice-reshare-prefix-j : tie.Need-slice-reshare-prefix-j Inv-loop μ-loop
-slice-reshare-prefix-j c = omega arith
+slice-reshare-prefix-tags-at : tie.Need-slice-reshare-prefix-tags-at Inv-loop μ-loop
+slice-reshare-prefix-tags-at c = omega arith
 
-slice-aggregate-j : tie.Need-slice-aggregate-j Inv-loop μ-loop
-slice-aggregate-j c = sym (length-take-le (c .before .before .before .before .args .cut) (c .before .before .loop .bytes) (omega arith))
+slice-aggregate-tags-at : tie.Need-slice-aggregate-tags-at Inv-loop μ-loop
+slice-aggregate-tags-at c = sym (length-take-le (c .before .before .before .before .args .cut) (c .before .before .loop .bytes) (omega arith))
 
 add-tags-at : tie.Need-add-tags-at Inv-loop μ-loop
 add-tags-at c = omega arith
@@ -46,9 +45,7 @@ tags-at-requires c κs =
     let p = c .before .before .before .before .pre in
     let a = c .before .before .before .before .args in
     let s = c .before .before .loop in
-    let r = reads-at 3 3 (a .g) (a .w) (a .h) (a .q) (a .y) (p .1 .1 .0) (s .x) (c .before .loop-test .taken) in
-    let k = held-take (a .g) (a .cut) (s .bytes) (omega arith) (p .0) in
-    (around-less (omega arith) (omega arith) r, (k, (around-less (omega arith) (omega arith) r, k)))
+    (reads-at 3 3 (a .g) (a .w) (a .h) (a .q) (a .y) (p .1 .1 .0) (s .x) (c .before .loop-test .taken), held-take (a .g) (a .cut) (s .bytes) (omega arith) (p .0))
 
 store-bytes-requires : tie.Need-store-bytes-requires Inv-loop μ-loop
 store-bytes-requires c κs = omega arith
@@ -72,7 +69,7 @@ loop-again c =
       omega arith,
       omega arith,
       fill-more (a .at) 4 (s .x) r (a .bytes .now) (s .bytes) (c .before .before .store-bytes .last .0) (s .i) _ (λ j. refl) (omega arith) (s .inv .2) (s .inv .1)
-          (ap ofTags (c .before .before .before .before .tags-at .ensures ∙ across-one (a .w) (a .h) (junctionsField (a .g) (take (a .cut) (s .bytes))) (a .q .x0 + s .x) (a .y) ∙ ap (λ (z : List ℕ). tags (a .w) (a .h) (junctionsField (a .g) z) (a .q .x0 + s .x) (a .y)) old))
+          (ap ofTags (c .before .before .before .before .tags-at .ensures ∙ ap (λ (z : List ℕ). tags (a .w) (a .h) (junctionsField (a .g) z) (a .q .x0 + s .x) (a .y)) old))
           (c .before .before .store-bytes .ensures),
     )
 
@@ -93,8 +90,8 @@ tags-row-spec =
     Inv-loop
     μ-loop
     loop-holds
-    slice-reshare-prefix-j
-    slice-aggregate-j
+    slice-reshare-prefix-tags-at
+    slice-aggregate-tags-at
     add-tags-at
     tags-at-requires
     store-bytes-requires

@@ -42,22 +42,43 @@ returns : tie.Need-returns
 unfolding ofBits
 returns c = flat _ _ _ _ _ _ _ _ _ (c .before .before .before .before .same .ensures) (c .before .before .before .same2 .ensures) (c .before .before .same3 .ensures) (c .before .same4 .ensures) (c .if1 .taken)
 
+same-requires-5 : tie.Need-same-requires-5
+same-requires-5 c κs = search needs
+
+same-requires-6 : tie.Need-same-requires-6
+same-requires-6 c κs = search needs
+
+same-requires-7 : tie.Need-same-requires-7
+same-requires-7 c κs = search needs
+
+pick-requires : tie.Need-pick-requires
+pick-requires c κs = search needs
+
+pick-requires-2 : tie.Need-pick-requires-2
+pick-requires-2 c κs = search needs
+
+pick-requires-3 : tie.Need-pick-requires-3
+pick-requires-3 c κs = search needs
+
 color-distance-requires : tie.Need-color-distance-requires
 color-distance-requires c κs = search needs
 
-color-distance-requires-2 : tie.Need-color-distance-requires-2
-color-distance-requires-2 c κs = search needs
+distance-by-requires : tie.Need-distance-by-requires
+distance-by-requires c κs = search needs
 
-color-distance-requires-3 : tie.Need-color-distance-requires-3
-color-distance-requires-3 c κs = search needs
+distance-by-requires-2 : tie.Need-distance-by-requires-2
+distance-by-requires-2 c κs = search needs
 
-color-distance-requires-4 : tie.Need-color-distance-requires-4
-color-distance-requires-4 c κs = search needs
+distance-by-requires-3 : tie.Need-distance-by-requires-3
+distance-by-requires-3 c κs = search needs
+
+distance-by-requires-4 : tie.Need-distance-by-requires-4
+distance-by-requires-4 c κs = search needs
 
 returns-2 : tie.Need-returns-2
 unfolding metricOf
 returns-2 c =
-    made (c .before .before .before .color-distance .ensures) (c .before .before .color-distance2 .ensures) (c .before .color-distance3 .ensures) (c .color-distance4 .ensures)
+    made (c .before .before .before .distance-by .ensures) (c .before .before .distance-by2 .ensures) (c .before .distance-by3 .ensures) (c .distance-by4 .ensures)
 
 pub metric-of-spec : {M : Type 1} → statement M
 metric-of-spec =
@@ -68,8 +89,15 @@ metric-of-spec =
     same-requires-3
     same-requires-4
     returns
+    same-requires-5
+    same-requires-6
+    same-requires-7
+    pick-requires
+    pick-requires-2
+    pick-requires-3
     color-distance-requires
-    color-distance-requires-2
-    color-distance-requires-3
-    color-distance-requires-4
+    distance-by-requires
+    distance-by-requires-2
+    distance-by-requires-3
+    distance-by-requires-4
     returns-2)

@@ -37,7 +37,12 @@ returns : tie.Need-returns
 unfolding moved
 returns c =
     let b = c .before in
-    rw (offset b, place b, toZ-ofZ w64 (b .args .d) (wider (b .args .d) (b .fits .d)), toZ-ofZ w64 (pos (b .args .p) +ℤ b .args .d) (sum-fits (b .args .p) (b .args .d) (b .fits .p) (b .fits .d))) at (c .clamp .ensures)
+    rw (
+      offset b,
+      place b,
+      toZ-ofZ w64 (b .args .d) (wider (b .args .d) (b .fits .d)),
+      toZ-ofZ w64 (pos (b .args .p) +ℤ b .args .d) (sum-fits (b .args .p) (b .args .d) (b .fits .p) (b .fits .d)),
+    ) at (c .clamp .ensures)
 
 pub shift-spec : {M : Type 1} → statement M
 shift-spec = tie.close (tie.spec cast-clamp cast-clamp-2 add-clamp clamp-requires returns)

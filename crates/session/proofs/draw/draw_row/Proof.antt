@@ -1,5 +1,5 @@
 -- `session::draw::draw_row` meets its contract. The row's blocks before column x have had their turn, and d of them were drawn. Assumes nothing.
-use mathlib.Core.Path.{_≡_, refl, sym, ap, subst}
+use mathlib.Core.Path.{_≡_, refl, sym, ap, _∙_, subst}
 use mathlib.Core.List.{[]}
 use Prim.Native.Nat.{ℕ, _+_, _-_, _*_, _<_, _≤_}
 use native.Mathlib.Nat.{add-zero}
@@ -7,11 +7,12 @@ use native.Mathlib.Omega.{arith}
 use borrow.Author.Needs.{needs}
 use borrow.Author.Tests.{ltb-true, ltb-false}
 use lib.ListN.{length}
-use Rattle.session.specs.Steps.{blocksFrom}
+use Rattle.session.specs.Steps.{tileBlocks}
 use Rattle.session.specs.Three.{screen3}
 use Rattle.session.proofs.Box.{row-end}
 use Rattle.session.proofs.Lists.{length-table}
 use Rattle.session.proofs.Loops.{Work, work-start, work-run, work-done, run-chosen, block-passed, none-wanted, none-left}
+use Rattle.session.proofs.Swept.{one-row}
 use Rattle.session.proofs.Words.{area}
 use Rattle.session.proofs.draw.draw_row.Statement.{statement}
 use Rattle.session.proofs.draw.draw_row.Tie as tie
@@ -123,14 +124,23 @@ few-of c =
       asked = omega (arith, s .few, e, f, ltb-true);
     }
 
-draw-run-requires : tie.Need-draw-run-requires Inv-loop μ-loop
-draw-run-requires c κs =
+draw-tile-requires : tie.Need-draw-tile-requires Inv-loop μ-loop
+draw-tile-requires c κs =
     let f = few-of (c .before .before) in
     let k = c .before .before .before .before .before .before .before .before .before .before in
     let s = k .before .before .before .before in
     let p = s .pre .1 in
     let i = k .loop .inv .2 in (
-      record { along = f .in-row; line = s .pre .0; some = f .some; few = f .run; wide = p .wide; high = p .high },
+      record {
+        along = f .in-row;
+        down = omega (arith, s .pre .0);
+        some-columns = f .some;
+        few-columns = f .run;
+        some-rows = omega arith;
+        few-rows = omega arith;
+        wide = p .wide;
+        high = p .high;
+      },
       record {
         wide = p .wide;
         high = p .high;
@@ -158,17 +168,19 @@ loop-again-2 c =
     let a = s .args in
     let l = k .loop in
     let r = row-of k in
-    let d = c .before .before .before .before .draw-run in
+    let d = c .before .before .before .before .draw-tile in
     let m = q .stale-run .result in
     let lo = a .y * a .w in
     let j = lo + (l .x + m) in (
       l .inv .0,
       f .in-row,
       work-run screen3 (a .w) (a .h) lo (lo + a .w) (a .n) (a .picture .now) (a .output .now) (a .marks .now) (l .inv .2)
-          j (blocksFrom (lo + l .x) m) (d .last .1 .0) (d .last .1 .1 .0) (l .d + m)
+          j (tileBlocks (a .w) (l .x) (a .y) m 1) (d .last .1 .0) (d .last .1 .1 .0) (l .d + m)
           (omega arith) (omega (arith, f)) (omega (arith, s .pre .1 .for-marks, r))
-          (run-chosen (lo + l .x) j m (a .n - l .d) (l .marks) (omega arith) (q .stale-run .ensures .all-stale) (omega (arith, f)))
-          (d .ensures .output-now) (d .ensures .marks-now) (ap (λ (n : ℕ). l .d + n) (sym (length-table m (λ j. lo + l .x + j)))),
+          (run-chosen (lo + l .x) j m (a .n - l .d) (l .marks) (omega arith) (q .stale-run .ensures .all-stale) (omega (arith, f))
+          ∙ one-row (a .w) (l .x) (a .y) m)
+          (d .ensures .output-now) (d .ensures .marks-now)
+          (ap (λ (n : ℕ). l .d + n) (sym (length-table m (λ i. (a .y + 0) * a .w + l .x + i)))),
     )
 
 same-length : tie.Need-same-length Inv-loop μ-loop
@@ -216,7 +228,7 @@ draw-row-spec =
     least-requires
     least-requires-2
     stale-run-requires
-    draw-run-requires
+    draw-tile-requires
     add-d
     add-x-2
     loop-less-2
