@@ -1,11 +1,11 @@
 -- What a block depends on, for every size of picture: section 6's box, and the cross that it follows from. Assumes nothing.
-use mathlib.Core.Path.{_≡_, refl, sym, _∙_, ap}
-use mathlib.Core.List.{List, [], _∷_}
-use Prim.Native.Nat.{ℕ, zero, suc, _+_, _≤_, _<_}
+use mathlib.Core.Path.{_≡_, refl}
+use mathlib.Core.List.{[], _∷_}
+use Prim.Native.Nat.{ℕ, zero, suc, _<_}
 use native.Mathlib.Omega.{arith}
-use lib.IntN.{ℤ, pos}
+use lib.IntN.{pos}
 use lib.ListN.{length, getD}
-use Rattle.picture.specs.Picture.{near, moved}
+use Rattle.picture.specs.Picture.{moved}
 use Rattle.picture.specs.Local.{Agree, narrower}
 use Rattle.picture.specs.Pipeline as Pipeline
 use Rattle.picture.specs.Pipeline.{Stages}

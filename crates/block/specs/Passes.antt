@@ -6,7 +6,7 @@ use native.Mathlib.Nat.{mul-le-mul}
 use native.Mathlib.Omega.{arith}
 use lib.Ieee.{Float, nan}
 use lib.ListN.{length, take, drop}
-use Rattle.picture.specs.Local.{In, Agree, narrower}
+use Rattle.picture.specs.Local.{In, narrower}
 use Rattle.picture.specs.Fill.{flat-same, put, take-put, length-put}
 use Rattle.picture.specs.Pipeline as Pipeline
 use Rattle.metric.specs.declared.Metric.{Metric}
@@ -19,7 +19,7 @@ use Rattle.tag.specs.declared.Tags.{Tags}
 use Rattle.tag.specs.Tag.{tags}
 use Rattle.field.specs.declared.grid.Grid.{Grid}
 use Rattle.field.specs.Grid.{ofMetric, ofWeights, ofJunctions, ofTags, metricField, weightsField, junctionsField, tagsField, tagsAt, rowOf, rectOf}
-use Rattle.field.specs.Room.{Held, Inner, Within, Feeds}
+use Rattle.field.specs.Room.{Held, Within, Feeds}
 use Rattle.field.specs.Kept.{Holds, Spans, holds-put, holds-take, holds-drop, rect-length, metrics-kept, weights-kept, junctions-kept, tags-kept}
 use Rattle.block.specs.Block.{pictureJunctions, pictureTags}
 use Rattle.block.specs.Locality.{stages}

@@ -1,6 +1,6 @@
 -- What a pass reads at a clamped place: that the rectangle holds it, and that it is the field's record near the pixel. Assumes nothing.
 use mathlib.Core.Path.{_≡_, _∙_}
-use Prim.Native.Nat.{ℕ, _+_, _-_, _*_, _≤_, _<_, min}
+use Prim.Native.Nat.{ℕ, _-_, _≤_}
 use native.Mathlib.Omega.{arith}
 use lib.IntN.{ℤ}
 use Rattle.picture.specs.Picture.{near, moved}
@@ -11,6 +11,7 @@ use Rattle.metric.specs.Metric.{metricOf}
 use Rattle.metric.specs.Weight.{weightsOf}
 use Rattle.junction.specs.Junction.{arbitrateJunctions}
 use Rattle.tag.specs.Tag.{traceEdges}
+use Rattle.tag.specs.Words.{nearOf}
 use Rattle.field.specs.declared.grid.Grid.{Grid}
 use Rattle.field.specs.Room.{Within, Around}
 use Rattle.field.specs.Places.{Close}
@@ -38,3 +39,6 @@ pub tags-same : {a0 a1 a2 a3 a4 a5 a6 a7 a8 a9 a10 a11 a12 b0 b1 b2 b3 b4 b5 b6 
     → a0 ≡ b0 → a1 ≡ b1 → a2 ≡ b2 → a3 ≡ b3 → a4 ≡ b4 → a5 ≡ b5 → a6 ≡ b6 → a7 ≡ b7 → a8 ≡ b8 → a9 ≡ b9 → a10 ≡ b10 → a11 ≡ b11 → a12 ≡ b12
     → traceEdges a0 a1 a2 a3 a4 a5 a6 a7 a8 a9 a10 a11 a12 ≡ traceEdges b0 b1 b2 b3 b4 b5 b6 b7 b8 b9 b10 b11 b12
 tags-same e0 e1 e2 e3 e4 e5 e6 e7 e8 e9 e10 e11 e12 = cc
+
+pub near-same : {a0 a1 a2 a3 a4 b0 b1 b2 b3 b4 : Junctions} → a0 ≡ b0 → a1 ≡ b1 → a2 ≡ b2 → a3 ≡ b3 → a4 ≡ b4 → nearOf a0 a1 a2 a3 a4 ≡ nearOf b0 b1 b2 b3 b4
+near-same e0 e1 e2 e3 e4 = cc

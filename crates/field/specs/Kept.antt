@@ -1,14 +1,14 @@
 -- Records that were stored of a rectangle are read back: on the rectangle, the field that the list holds is the field that was stored.
 -- Assumes nothing.
 use mathlib.Core.Path.{_≡_, refl, sym, _∙_, ap}
-use mathlib.Core.List.{List, _++_}
+use mathlib.Core.List.{List}
 use Prim.Native.Nat.{ℕ, _+_, _-_, _*_, _≤_, _<_, min}
 use native.Mathlib.Nat.{zero-add, add-zero, mul-assoc}
 use native.Mathlib.Omega.{arith}
 use lib.Ieee.{Float, nan}
 use lib.ListN.{length, getD, take, drop}
 use lib.Seq.{getD-take, getD-drop}
-use Rattle.picture.specs.Fill.{flat, put, getD-put, getD-put-before, getD-rect, length-rect, within}
+use Rattle.picture.specs.Fill.{put, getD-put, getD-rect, length-rect, within}
 use Rattle.picture.specs.Local.{In, Agree}
 use Rattle.metric.specs.declared.Metric.{Metric}
 use Rattle.metric.specs.declared.Weights.{Weights}
@@ -49,7 +49,7 @@ module _ {R E : Type 0} (none : E) (elements : R → List E) (four : (r : R) →
       ∙ ap (λ (i : ℕ). getD (elements (f i (g .y0 + (y - g .y0)))) j none) ex
       ∙ ap (λ (i : ℕ). getD (elements (f x i)) j none) ey
 
-  -- a list into which the rectangle was put holds it: at the front, before a cut, where more is put behind it, and from a cut on
+  -- a list into which the rectangle was put holds it: at the front, before a cut, and from a cut on
   pub holds-put : (l : List E) → Holds (put 0 (rectOf elements g f) l)
   unfolding Holds
   holds-put l i hi =
@@ -59,10 +59,6 @@ module _ {R E : Type 0} (none : E) (elements : R → List E) (four : (r : R) →
   pub holds-take : (cut : ℕ) (l : List E) → g .rows * (g .cols * 4) ≤ cut → Holds l → Holds (take cut l)
   unfolding Holds
   holds-take cut l h k i hi = getD-take cut l i none (omega arith) ∙ k i hi
-
-  pub holds-before : (cut : ℕ) (vs l : List E) → g .rows * (g .cols * 4) ≤ cut → cut ≤ length l → Holds l → Holds (put cut vs l)
-  unfolding Holds
-  holds-before cut vs l h k p i hi = getD-put-before cut vs l i none (omega arith) k ∙ p i hi
 
   pub holds-drop : (cut : ℕ) (l : List E) → cut ≤ length l → Holds (drop cut (put cut (rectOf elements g f) l))
   unfolding Holds

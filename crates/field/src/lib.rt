@@ -256,18 +256,32 @@ fn tags_around(j: &[u8], g: Grid, w: u32, h: u32, x: u32, y: u32) -> Tags
     )
 }
 
-// The same. Where the pixel itself has no flag but orientation, as most of a page's, nothing around it is read.
+// The same. Where the pixel itself has no flag but orientation, as many of a page, nothing around it is read, and where those
+// beside it decide, nothing farther away.
 pub fn tags_at(j: &[u8], g: Grid, w: u32, h: u32, x: u32, y: u32) -> Tags
     requires { ⌜ (Around 3 3 g w h x y) × (Held g (length (now j))) ⌝ }
     ensures { λ q. ⌜ q ≡ tags w h (junctionsField g (now (j .entry))) x y ⌝ }
 {
-    if tag::bare(junctions_in(j, g, x, y)) {
+    let e = junctions_in(j, g, x, y);
+    if tag::bare(e) {
         return Tags {
             t0: 0,
             t1: 0,
             t2: 0,
             t3: 0,
         };
+    }
+    let xs = three_at(x, w);
+    let ys = three_at(y, h);
+    let q = tag::trace_near(
+        e,
+        junctions_in(j, g, xs.before, y),
+        junctions_in(j, g, xs.after, y),
+        junctions_in(j, g, x, ys.before),
+        junctions_in(j, g, x, ys.after),
+    );
+    if q.known {
+        return q.tags;
     }
     tags_around(j, g, w, h, x, y)
 }

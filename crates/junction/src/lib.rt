@@ -37,6 +37,13 @@ struct Active {
     a3: bool,
 }
 
+const NO_CORNER: Active = Active {
+    a0: false,
+    a1: false,
+    a2: false,
+    a3: false,
+};
+
 fn dominance(a: Triple) -> f32
     ensures { λ r. ⌜ r ≡ dominanceOf a ⌝ }
 {
@@ -141,15 +148,6 @@ fn active_corners(
 ) -> Active
     ensures { λ q. ⌜ q ≡ activeCorners tl t tr l c r bl b br ⌝ }
 {
-    // The corners of a weightless pixel, as most of a page are, are not active whatever is around it.
-    if weightless(c) {
-        return Active {
-            a0: false,
-            a1: false,
-            a2: false,
-            a3: false,
-        };
-    }
     suppress(
         top_left(c, l, tl, t),
         top_right(c, t, tr, r),
@@ -181,10 +179,6 @@ fn number(active: bool, diagonal: Pair, orth_a: Pair, orth_b: Pair) -> u8
     let orient = h_edge + orth_a.0 > v_edge + orth_a.1;
     let less = h_edge < v_edge;
     let more = h_edge > v_edge;
-    // Equal edges are neither horizontal nor vertical, so nothing is asked of the diagonal.
-    if !(less | more) {
-        return flag(active, 1) + flag(orient, 8);
-    }
     let jcond = junction_condition(diagonal, orth_a, orth_b);
     flag(active, 1) + flag(less & jcond, 2) + flag(more & jcond, 4) + flag(orient, 8)
 }
@@ -232,6 +226,11 @@ pub fn arbitrate_junctions(
 ) -> Junctions
     ensures { λ q. ⌜ q ≡ arbitrateJunctions mtl mt ml mc mr mbl mb mbr stl st str sl sc sr sbl sb sbr ⌝ }
 {
+    // The corners of a weightless pixel, as most of a page are, are not active whatever is around it. This is the only branch, and the
+    // numbers stand on both of its sides, so that compiled code finds the four corners side by side.
+    if weightless(sc) {
+        return numbers_of(mtl, mt, ml, mc, mr, mbl, mb, mbr, NO_CORNER);
+    }
     let k = active_corners(stl, st, str, sl, sc, sr, sbl, sb, sbr);
     numbers_of(mtl, mt, ml, mc, mr, mbl, mb, mbr, k)
 }

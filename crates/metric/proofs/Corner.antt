@@ -11,7 +11,8 @@ use lib.Ieee.Positive.{num, den}
 use Rattle.single.specs.Single.{f0, f½, f1, _⊕_, _⊖_, _⊗_, _⊘_, maxOf, minOf, clampOf}
 use Rattle.single.specs.Root.{rooted}
 use Rattle.metric.specs.Weight.{cornerWeightOf}
-use Rattle.metric.proofs.Nonneg.{shape, In, →le, nlt→le, le-refl', le-total', zero-le', up-to, self-in, widen, sub-mono', sub-rooted, sub-swap, sub-in, add-in, mul-in, div-in, mul-zero', zero-mul', max-in, twice}
+use Rattle.metric.proofs.Nonneg.{shape, In, →le, nlt→le, le-refl', le-total', zero-le', up-to, self-in, widen, sub-mono'}
+use Rattle.metric.proofs.Nonneg.{sub-rooted, sub-swap, sub-in, add-in, mul-in, div-in, mul-zero', zero-mul', max-in, twice}
 use Rattle.metric.proofs.Under.{sub-under}
 
 abbrev In01 : Float → Type 0

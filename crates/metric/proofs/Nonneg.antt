@@ -3,7 +3,8 @@
 use mathlib.Core.Path.{_≡_, refl, sym, ap, _∙_, subst}
 use mathlib.Core.Logic.{_⊎_, inl, inr}
 use Prim.Native.Nat.{ℕ, zero, suc, _+_, _-_, _*_, _^_, _≤_, _<_, zero-le}
-use native.Mathlib.Nat.{le-trans, le-of-eq, le-of-lt, le-refl, lt-irrefl, not-le-of-lt, eq-or-lt-of-le, zero-mul, mul-zero, mul-comm, mul-assoc, mul-left-comm, add-comm, add-mul, add-le-add, mul-le-mul-right, mul-le-mul, mul-pos, mul-sub, mul-mul-mul-comm, sub-self}
+use native.Mathlib.Nat.{le-trans, le-of-eq, le-of-lt, le-refl, lt-irrefl, not-le-of-lt, eq-or-lt-of-le, zero-mul, mul-zero, mul-comm, mul-assoc}
+use native.Mathlib.Nat.{mul-left-comm, add-comm, add-mul, add-le-add, mul-le-mul-right, mul-le-mul, mul-pos, mul-sub, mul-mul-mul-comm, sub-self}
 use native.Mathlib.Omega.{arith}
 use mathlib.Core.Bool.{Bool, true, false, not, _&&_, _||_, cond}
 use lib.IntN.{ℤ, pos}

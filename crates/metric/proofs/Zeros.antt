@@ -99,5 +99,15 @@ zero-weight e p0 p1 s0 s1 i j k =
     (λ a d. shape (λ (p0 : Float). p0 ⊗ p1 ≡ cornerWeightOf (fin a 0 d) p0 p1 s0 s1)
     (λ b f. shape (λ (p1 : Float). fin b 0 f ⊗ p1 ≡ cornerWeightOf (fin a 0 d) (fin b 0 f) p1 s0 s1)
     (λ c g.
-    rw (half-less a d, one-less a d, one-more (lt (minOf (fin c 0 g) s1 ⊕ fin c 0 g) (minOf (fin b 0 f) s0 ⊕ fin b 0 f)) b c f g, shown, product false b 1 (pos 0) f, plain b, product b c 0 (pos 0) g, product b c 0 f g))
+    rw (
+      half-less a d,
+      one-less a d,
+      one-more (lt (minOf (fin c 0 g) s1 ⊕ fin c 0 g) (minOf (fin b 0 f) s0 ⊕ fin b 0 f)) b c f g,
+      shown,
+      product false b 1
+          (pos 0) f,
+      plain b,
+      product b c 0 (pos 0) g,
+      product b c 0 f g,
+    ))
     p1 k) p0 j) e i

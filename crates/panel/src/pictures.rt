@@ -26,7 +26,8 @@ pub extern "C" fn panel_scale9x(
     singles: &mut [f32],
     bytes: &mut [u8],
 ) -> u32
-    ensures { λ r. ⌜ Scales9 w h (now (picture .entry)) (now (output .entry)) (now (middle .entry)) (now (singles .entry)) (now (bytes .entry))
+    ensures { λ r. ⌜ Scales9 w h (now (picture .entry)) (now (output .entry)) (now (middle .entry)) (now (singles .entry))
+        (now (bytes .entry))
         (now (output .exit)) (now (middle .exit)) (now (singles .exit)) (now (bytes .exit)) r ⌝ }
 {
     whole::scale9x(w, h, picture, output, middle, singles, bytes)

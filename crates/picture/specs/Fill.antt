@@ -1,7 +1,7 @@
 -- A list that is written over from a place on, and a run of chunks that is written one after the other. Assumes nothing.
 use mathlib.Core.Path.{_≡_, refl, sym, _∙_, ap, ap₂}
-use mathlib.Core.List.{List, [], _∷_, _++_, append-assoc, append-nil}
-use Prim.Native.Nat.{ℕ, zero, suc, _+_, _-_, _*_, _≤_, _<_, min}
+use mathlib.Core.List.{List, [], _∷_, _++_, append-assoc}
+use Prim.Native.Nat.{ℕ, zero, suc, _+_, _-_, _*_, _≤_, _<_}
 use native.Mathlib.Nat.{add-mul, mul-assoc, suc-mul, zero-mul, add-zero, add-assoc, mul-le-mul-right}
 use native.Mathlib.Numerals.{add-one, add-two, add-three}
 use native.Mathlib.Omega.{arith}
@@ -10,7 +10,7 @@ use lib.Dec.{ltb}
 use borrow.Author.Tests.{ltb-true, ltb-false}
 use lib.ListN.{take-append-drop, length, getD, take, drop, set, length-append, length-take, length-drop, List·getD-append}
 use lib.Seq.{take-take, sets, sets-eq, set-comm, take-append-le}
-use lib.Seq.{take-at, drop-drop, length-take-le, drop-append-add, getD-append-add, getD-take}
+use lib.Seq.{take-at, drop-drop, length-take-le, drop-append-add, getD-append-add}
 
 -- entry j of chunk i stands before the end of n chunks; and so does the chunk's end
 pub within : (i n j k : ℕ) → i < n → j < k → i * k + j < n * k
@@ -68,11 +68,6 @@ module _ {A : Type 0} where
   getD-past p q n m d e = rw (sym e) (getD-append-add p q m d)
 
   -- what is read from a list that is written over
-  pub getD-put-before : (b : ℕ) (vs l : List A) (i : ℕ) (d : A) → i < b → b ≤ length l → getD (put b vs l) i d ≡ getD l i d
-  unfolding put
-  getD-put-before b vs l i d hi hb =
-      List·getD-append (take b l) (vs ++ drop (b + length vs) l) d i (simp length-take (omega arith)) ∙ getD-take b l i d hi
-
   pub getD-put : (b : ℕ) (vs l : List A) (i : ℕ) (d : A) → i < length vs → b ≤ length l → getD (put b vs l) (b + i) d ≡ getD vs i d
   unfolding put
   getD-put b vs l i d hi hb =

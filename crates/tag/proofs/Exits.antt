@@ -1,20 +1,22 @@
 -- Where the code stops early the tags are 0, and what lies two and three pixels away gives nothing where no run of four may pass.
 -- Assumes nothing.
 use mathlib.Core.Path.{_≡_, refl, sym, _∙_, ap}
-use mathlib.Core.Bool.{true, false}
+use mathlib.Core.Bool.{Bool, true, false, cond}
 use Prim.Native.Nat.{ℕ, _*_, _/_, _%_}
 use native.Mathlib.Omega.{arith}
+use lib.Dec.{eqb}
 use lib.Bits.{bitAnd, bitOr, or-add-and, and-le-l, and-le-r, and-zero-l, and-zero-r, and-block, and-mod, and-mask}
 use borrow.Author.Tests.{eqb-true}
 use Rattle.junction.specs.declared.Junctions.{Junctions}
 use Rattle.tag.specs.declared.lanes.Pair.{Pair}
 use Rattle.tag.specs.declared.Neighbors.{Neighbors}
-use Rattle.tag.specs.declared.Far.{Far}
+use Rattle.tag.specs.declared.Near.{Near}
+use Rattle.tag.specs.declared.Tags.{Tags}
 use Rattle.tag.specs.Tag.{active, horizontal, vertical, traceEdges}
 use Rattle.tag.specs.Laws.{none}
 use Rattle.tag.specs.Lanes.{lanes, across, down, above, own, after, choose}
 use Rattle.tag.specs.Words.{wordOf, actives, horizontals, verticals, aroundOf, level2Of, level3Of, level4Near, level4Of, level5Of, level6Of}
-use Rattle.tag.specs.Words.{farCorners, farMids, farOf, cornersOf, bothOf, midsOf, tagsWord, splitOf, bareOf}
+use Rattle.tag.specs.Words.{farCorners, farMids, farOf, cornersOf, bothOf, midsOf, tagsWord, splitOf, bareOf, nothing, knownOf, nearOf}
 use Rattle.tag.proofs.LaneLaws.{num, bytewise}
 use Rattle.tag.proofs.LaneLaws as laws
 use Rattle.tag.proofs.Same.{around-sides, same}
@@ -30,14 +32,11 @@ empty : lanes 0 0 0 0 ≡ 0
 unfolding lanes
 empty = refl
 
-abbrev pub nothing : Far
-nothing = record { corners = record { first = 0; second = 0; tag = 0 }; mids = record { first = 0; any = 0; tag = 0 } }
-
 pub far-none : (p : Pair) (n n2 n3 : Neighbors) → p .h ≡ 0 → p .v ≡ 0 → farOf p n n2 n3 ≡ nothing
 unfolding farOf level4Of level5Of level6Of farCorners farMids across down own after above
 far-none p n n2 n3 eh ev = rw (eh, ev) (simp (and-zero-l, choose-none, empty))
 
-near-none : (w : ℕ) (n : Neighbors) → actives w ≡ 0 → tagsWord w n nothing ≡ 0
+pub near-none : (w : ℕ) (n : Neighbors) → actives w ≡ 0 → tagsWord w n nothing ≡ 0
 unfolding tagsWord cornersOf midsOf bothOf level2Of level3Of across down own after above
 near-none w n e = rw e (simp (and-zero-l, choose-none, empty))
 
@@ -74,6 +73,16 @@ run-none : (w : ℕ) (n : Neighbors) → horizontals w ≡ 0 → verticals w ≡
 unfolding level4Near
 run-none w n eh ev = (rw eh (simp (and-zero-l, and-zero-r)), rw ev (simp (and-zero-l, and-zero-r)))
 
+-- what the code finds of the neighbours at distance 1 is `nearOf`
+pub near-made : (e l r u d : Junctions) {w : ℕ} {n : Neighbors} {p : Pair} {t : Tags} (k : Bool)
+    → w ≡ wordOf e → n ≡ aroundOf l r u d → p ≡ level4Near w n → eqb (bitOr (p .h) (p .v)) 0 ≡ k → t ≡ splitOf (cond k (tagsWord w n nothing) 0)
+    → _≡_ {A = Near} (record { tags = t; known = k }) (nearOf e l r u d)
+unfolding nearOf knownOf
+near-made e l r u d k ew en ep ek et =
+    let kept : knownOf (wordOf e) (aroundOf l r u d) ≡ k = rw (ep, ew, en) at ek in
+    let same-tags = rw (ew, en) at et in
+    rw kept (λ i. record { tags = same-tags i; known = k })
+
 module _ (e dl dl2 dl3 dr dr2 dr3 du du2 du3 dd dd2 dd3 : Junctions) where
   abbrev n : Neighbors
   n = aroundOf dl dr du dd
@@ -87,17 +96,21 @@ module _ (e dl dl2 dl3 dr dr2 dr3 du du2 du3 dd dd2 dd3 : Junctions) where
       rw (around-sides dl dr du dd, around-sides dl2 dr2 du2 dd2, around-sides dl3 dr3 du3 dd3)
       (same e dl dl2 dl3 dr dr2 dr3 du du2 du3 dd dd2 dd3)
 
-  stops : p .h ≡ 0 → p .v ≡ 0 → actives (wordOf e) ≡ 0 → splitOf 0 ≡ traceEdges e dl dl2 dl3 dr dr2 dr3 du du2 du3 dd dd2 dd3
-  stops eh ev ea =
-      ap splitOf (sym (near-none (wordOf e) n ea))
-      ∙ rw (sym (far-none p n (aroundOf dl2 dr2 du2 dd2) (aroundOf dl3 dr3 du3 dd3) eh ev)) whole
+  -- no run of four may pass
+  known-none : knownOf (wordOf e) n ≡ true → (p .h ≡ 0) × (p .v ≡ 0)
+  unfolding knownOf
+  known-none k = or-none (p .h) (p .v) (eqb-true (bitOr (p .h) (p .v)) 0 k)
 
-  -- no own corner is active, and no run of four may pass
-  pub stops-late : bitOr (bitOr (p .h) (p .v)) (actives (wordOf e)) ≡ 0 → splitOf 0 ≡ traceEdges e dl dl2 dl3 dr dr2 dr3 du du2 du3 dd dd2 dd3
-  stops-late k =
-      let a = or-none (bitOr (p .h) (p .v)) (actives (wordOf e)) k in
-      let b = or-none (p .h) (p .v) (a .0) in
-      stops (b .0) (b .1) (a .1)
+  near-whole : p .h ≡ 0 → p .v ≡ 0 → splitOf (tagsWord (wordOf e) n nothing) ≡ traceEdges e dl dl2 dl3 dr dr2 dr3 du du2 du3 dd dd2 dd3
+  near-whole eh ev = rw (sym (far-none p n (aroundOf dl2 dr2 du2 dd2) (aroundOf dl3 dr3 du3 dd3) eh ev)) whole
+
+  -- for a caller that loads what lies farther away only where it counts
+  pub near-all : knownOf (wordOf e) n ≡ true → nearOf e dl dr du dd .tags ≡ traceEdges e dl dl2 dl3 dr dr2 dr3 du du2 du3 dd dd2 dd3
+  unfolding nearOf
+  near-all k = rw k (near-whole (known-none k .0) (known-none k .1))
+
+  stops : p .h ≡ 0 → p .v ≡ 0 → actives (wordOf e) ≡ 0 → splitOf 0 ≡ traceEdges e dl dl2 dl3 dr dr2 dr3 du du2 du3 dd dd2 dd3
+  stops eh ev ea = ap splitOf (sym (near-none (wordOf e) n ea)) ∙ near-whole eh ev
 
   -- the pixel has no flag but orientation
   pub stops-early : bareOf e ≡ true → splitOf 0 ≡ traceEdges e dl dl2 dl3 dr dr2 dr3 du du2 du3 dd dd2 dd3

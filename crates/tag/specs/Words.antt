@@ -1,6 +1,6 @@
 -- The tags of a pixel as the code computes them: the source's levels, for the four corners at once. Definitions only.
 -- `proofs/Same.antt` shows that these are the tags of `traceEdges`.
-use mathlib.Core.Bool.{Bool}
+use mathlib.Core.Bool.{Bool, cond}
 use Prim.Native.Nat.{ℕ, _+_, _*_, _/_, _%_}
 use lib.Dec.{eqb}
 use lib.Bits.{bitAnd, bitOr, bitXor}
@@ -11,6 +11,7 @@ use Rattle.tag.specs.declared.Neighbors.{Neighbors}
 use Rattle.tag.specs.declared.FarCorners.{FarCorners}
 use Rattle.tag.specs.declared.FarMids.{FarMids}
 use Rattle.tag.specs.declared.Far.{Far}
+use Rattle.tag.specs.declared.Near.{Near}
 use Rattle.tag.specs.Tag.{CENTER, LEFT, LEFT2, RIGHT, RIGHT2, UP, UP2, DOWN, DOWN2}
 use Rattle.tag.specs.Lanes.{lanes, ones, across, down, opposite, beside, above, own, after, choose}
 
@@ -170,3 +171,17 @@ splitOf t = record { t0 = t % 256; t1 = t / 256 % 256; t2 = t / 65536 % 256; t3 
 -- no flag but orientation
 abbrev pub bareOf : Junctions → Bool
 bareOf e = eqb (bitAnd (wordOf e) 0x07070707) 0
+
+-- what the levels 4 to 6 give where no run of four passes
+abbrev pub nothing : Far
+nothing = record { corners = record { first = 0; second = 0; tag = 0 }; mids = record { first = 0; any = 0; tag = 0 } }
+
+-- no run of four may pass: what lies two and three pixels away gives nothing
+unfoldable pub knownOf : ℕ → Neighbors → Bool
+knownOf e n = eqb (level4Near e n .h or level4Near e n .v) 0
+
+-- the tags where the neighbours at distance 1 decide them, and 0 elsewhere
+unfoldable pub nearOf : Junctions → Junctions → Junctions → Junctions → Junctions → Near
+nearOf e l r u d =
+    let n = aroundOf l r u d in
+    record { tags = splitOf (cond (knownOf (wordOf e) n) (tagsWord (wordOf e) n nothing) 0); known = knownOf (wordOf e) n }

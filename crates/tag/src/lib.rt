@@ -16,7 +16,8 @@ use lanes::word;
 ghost use mathlib.Core.Path.{_≡_};
 ghost use Rattle.tag.specs.Tag.{traceEdges, offsetOf};
 ghost use Rattle.tag.specs.Words.{aroundOf, level2Of, level3Of, level4Near, level4Of, level5Of, level6Of};
-ghost use Rattle.tag.specs.Words.{farCorners, farMids, farOf, cornersOf, bothOf, midsOf, tagsWord, splitOf, bareOf};
+ghost use Rattle.tag.specs.Words.{farCorners, farMids, farOf, cornersOf, bothOf, midsOf};
+ghost use Rattle.tag.specs.Words.{tagsWord, splitOf, bareOf, nothing, nearOf};
 
 mod lanes;
 
@@ -262,7 +263,7 @@ fn split(t: u32) -> Tags
     }
 }
 
-// What lies two and three pixels away counts only where a run of four may pass.
+// What lies two and three pixels away.
 fn farther(
     p: Pair,
     n: Neighbors,
@@ -277,20 +278,6 @@ fn farther(
 ) -> Far
     ensures { λ q. ⌜ q ≡ farOf p n (aroundOf l2 r2 u2 d2) (aroundOf l3 r3 u3 d3) ⌝ }
 {
-    if (p.h | p.v) == 0 {
-        return Far {
-            corners: FarCorners {
-                first: 0,
-                second: 0,
-                tag: 0,
-            },
-            mids: FarMids {
-                first: 0,
-                any: 0,
-                tag: 0,
-            },
-        };
-    }
     let n2 = around(l2, r2, u2, d2);
     let n3 = around(l3, r3, u3, d3);
     let l4 = level4(p, n2);
@@ -302,11 +289,62 @@ fn farther(
     }
 }
 
+// What lies two and three pixels away, where no run of four passes.
+fn nothing() -> Far
+    ensures { λ q. ⌜ q ≡ nothing ⌝ }
+{
+    Far {
+        corners: FarCorners {
+            first: 0,
+            second: 0,
+            tag: 0,
+        },
+        mids: FarMids {
+            first: 0,
+            any: 0,
+            tag: 0,
+        },
+    }
+}
+
 // Whether a pixel has no flag but orientation: its tags are 0 whatever lies around it. Most pixels of a page are so.
 pub fn bare(e: Junctions) -> bool
     ensures { λ r. ⌜ r ≡ bareOf e ⌝ }
 {
     word(e) & 0x07070707 == 0
+}
+
+// The tags of a pixel where those beside it decide them, and whether they do.
+pub struct Near {
+    pub tags: Tags,
+    pub known: bool,
+}
+
+// What lies two and three pixels away counts only where a run of four may pass: there the tags are left at 0, for `trace_edges` to find.
+pub fn trace_near(e: Junctions, dl: Junctions, dr: Junctions, du: Junctions, dd: Junctions) -> Near
+    ensures { λ q. ⌜ q ≡ nearOf e dl dr du dd ⌝ }
+{
+    let w = word(e);
+    let n = around(dl, dr, du, dd);
+    let p = level4_near(w, n);
+    if (p.h | p.v) != 0 {
+        return Near {
+            tags: split(0),
+            known: false,
+        };
+    }
+    // No own corner is active.
+    if w & ONES == 0 {
+        return Near {
+            tags: split(0),
+            known: true,
+        };
+    }
+    let f = nothing();
+    Near {
+        tags: split(tags_word(w, n, f)),
+        known: true,
+    }
 }
 
 // The tags of a pixel, from its junctions and those to the left, right, above and below out to distance 3.
@@ -327,15 +365,9 @@ pub fn trace_edges(
 ) -> Tags
     ensures { λ q. ⌜ q ≡ traceEdges e dl dl2 dl3 dr dr2 dr3 du du2 du3 dd dd2 dd3 ⌝ }
 {
-    if bare(e) {
-        return split(0);
-    }
     let w = word(e);
     let n = around(dl, dr, du, dd);
     let p = level4_near(w, n);
-    if (p.h | p.v | w & ONES) == 0 {
-        return split(0);
-    }
     let f = farther(p, n, dl2, dr2, du2, dd2, dl3, dr3, du3, dd3);
     split(tags_word(w, n, f))
 }

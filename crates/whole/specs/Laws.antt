@@ -1,20 +1,18 @@
 -- Laws of section 8's definitions: lengths, where a block's words stand, and how the code's stores add up to them. Assumes nothing.
 use mathlib.Core.Path.{_≡_, refl, sym, _∙_, ap}
-use mathlib.Core.List.{List, [], _∷_, _++_, append-assoc}
-use Prim.Native.Nat.{ℕ, zero, suc, _+_, _-_, _*_, _/_, _%_, _≤_, _<_}
-use native.Mathlib.Nat.{mul-assoc, mul-comm, mul-left-comm, add-mul, mul-le-mul-right, suc-mul, zero-mul, add-assoc}
+use mathlib.Core.List.{List, [], _∷_, _++_}
+use Prim.Native.Nat.{ℕ, zero, suc, _+_, _-_, _*_, _≤_, _<_}
+use native.Mathlib.Nat.{mul-assoc, mul-comm, mul-left-comm, add-mul, suc-mul}
 use native.Mathlib.Numerals.{add-one}
 use native.Mathlib.Omega.{arith}
-use lib.Ieee.{Float}
-use lib.ListN.{length, getD, take, drop, length-take, length-drop, length-append}
+use lib.ListN.{length, getD, drop, length-append}
 use lib.Seq.{getD-take, getD-drop}
-use Rattle.picture.specs.Fill.{flat, flat-same, put, put-put, put-comm, put-nil, length-put, length-flat, getD-flat, getD-flat-below, within}
+use Rattle.picture.specs.Fill.{flat, put, put-put, put-comm, put-nil, length-put, length-flat, getD-flat, getD-flat-below, within}
 use Rattle.field.specs.declared.grid.Grid.{Grid}
 use Rattle.field.specs.Grid.{ofMetric, ofWeights, ofJunctions, ofTags, tagsAt}
 use Rattle.metric.specs.Metric.{metrics}
 use Rattle.metric.specs.Weight.{weights}
 use Rattle.block.specs.Block.{pictureJunctions, pictureTags, blockFrom, blockOf}
-use Rattle.block.specs.Locality.{block-length}
 use Rattle.whole.specs.Whole.{allOf, third, rowsOf, scaleOf, singlesOf, bytesOf}
 
 -- the picture as one rectangle
@@ -24,7 +22,8 @@ gridOf w h = record { x0 = 0; y0 = 0; cols = w; rows = h }
 -- ---- a block's nine words stored, three at a time, in an output of rows of ow words
 
 unfoldable pub putBlock : ℕ → ℕ → List ℕ → List ℕ → List ℕ
-putBlock ow at b l = put (at + 2 * ow) (getD b 6 0 ∷ getD b 7 0 ∷ getD b 8 0 ∷ []) (put (at + ow) (getD b 3 0 ∷ getD b 4 0 ∷ getD b 5 0 ∷ []) (put at (getD b 0 0 ∷ getD b 1 0 ∷ getD b 2 0 ∷ []) l))
+putBlock ow at b l = put (at + 2 * ow) (getD b 6 0 ∷ getD b 7 0 ∷ getD b 8 0 ∷ [])
+    (put (at + ow) (getD b 3 0 ∷ getD b 4 0 ∷ getD b 5 0 ∷ []) (put at (getD b 0 0 ∷ getD b 1 0 ∷ getD b 2 0 ∷ []) l))
 
 -- the block of (x, y) by the tags that a list holds from `from` on
 abbrev pub taggedBlock : ℕ → ℕ → (ℕ → ℕ → ℕ) → List ℕ → ℕ → ℕ → ℕ → List ℕ
@@ -141,7 +140,8 @@ module _ (ow at : ℕ) (blocks : ℕ → List ℕ) (three : (r x : ℕ) → r < 
         let i2 : o + 2 * ow ≡ at + 2 * ow + n * 3 = omega arith in
         let z : l′ ≡ put (at + 2 * ow) (strip 2 (suc n)) y₃ =
         e
-        ∙ ap (λ (m : List ℕ). put (o + 2 * ow) (getD b 6 0 ∷ getD b 7 0 ∷ getD b 8 0 ∷ []) (put (o + ow) (getD b 3 0 ∷ getD b 4 0 ∷ getD b 5 0 ∷ []) (put o (getD b 0 0 ∷ getD b 1 0 ∷ getD b 2 0 ∷ []) m))) (f .is)
+        ∙ ap (λ (m : List ℕ). put (o + 2 * ow) (getD b 6 0 ∷ getD b 7 0 ∷ getD b 8 0 ∷ [])
+        (put (o + ow) (getD b 3 0 ∷ getD b 4 0 ∷ getD b 5 0 ∷ []) (put o (getD b 0 0 ∷ getD b 1 0 ∷ getD b 2 0 ∷ []) m))) (f .is)
         ∙ rw (i2, i1, eo, b2, b1, b0, first, second, third-put) in
         record {
           is = z ∙ ap (λ (m : ℕ). put (at + 2 * ow) (strip 2 m) (put (at + ow) (strip 1 m) (put at (strip 0 m) l₀))) (sym (add-one n));
@@ -215,7 +215,8 @@ module _ (w h : ℕ) (f : ℕ → ℕ → ℕ) where
   in-rows : (bx by r c : ℕ) → bx < w → r < 3 → c < 3 → getD (rowsOf w (λ x. blockOf w h f x by)) (r * (w * 3) + (bx * 3 + c)) 0 ≡ getD (third r (blockOf w h f bx by)) c 0
   unfolding rowsOf
   in-rows bx by r c hx hr hc =
-      getD-flat-below (w * 3) (λ q. flat w (λ x. third q (blockOf w h f x by))) 3 (λ q k. length-flat 3 (λ x. third q (blockOf w h f x by)) (λ x. three-of by q x k) w) r (bx * 3 + c) 0 hr (within bx w c 3 hx hc)
+      getD-flat-below (w * 3) (λ q. flat w (λ x. third q (blockOf w h f x by))) 3 (λ q k. length-flat 3 (λ x. third q (blockOf w h f x by)) (λ x. three-of by q x k) w) r
+      (bx * 3 + c) 0 hr (within bx w c 3 hx hc)
       ∙ getD-flat 3 (λ x. third r (blockOf w h f x by)) (λ x. three-of by r x hr) w bx c 0 hx hc
 
   -- word c of row r of block (bx, by) stands in output row 3 by + r, column 3 bx + c: the output's block is section 6's block

@@ -1,8 +1,8 @@
 -- The passes over a whole picture leave section 8's lists. Assumes nothing.
 use mathlib.Core.Path.{_≡_, refl, sym, _∙_, ap, ap₂}
-use mathlib.Core.Bool.{Bool, true, false, cond, _||_}
-use mathlib.Core.List.{List, [], _∷_, _++_}
-use Prim.Native.Nat.{ℕ, zero, suc, _+_, _-_, _*_, _/_, _%_, _≤_, _<_}
+use mathlib.Core.Bool.{cond, _||_}
+use mathlib.Core.List.{List, _++_}
+use Prim.Native.Nat.{ℕ, _+_, _-_, _*_, _≤_, _<_}
 use native.Mathlib.Nat.{zero-add, mul-assoc}
 use native.Mathlib.Omega.{arith}
 use lib.Dec.{ltb}
@@ -14,7 +14,6 @@ use Rattle.picture.specs.Fill.{flat, flat-same, put, put-put, length-put}
 use Rattle.metric.specs.Metric.{metrics}
 use Rattle.metric.specs.Weight.{weights}
 use Rattle.tag.specs.declared.Tags.{Tags}
-use Rattle.field.specs.declared.grid.Grid.{Grid}
 use Rattle.field.specs.Grid.{ofMetric, ofWeights, ofJunctions, ofTags, tagsField, tagsAt, rowOf, rectOf}
 use Rattle.field.specs.Kept.{Holds, Spans, holds-drop, rect-length, tags-kept}
 use Rattle.block.specs.Block.{pictureJunctions, pictureTags, blockFrom, blockOf}

@@ -141,7 +141,8 @@ pub fn scale9x(
     singles: &mut [f32],
     bytes: &mut [u8],
 ) -> u32
-    ensures { λ r. ⌜ Scales9 w h (now (picture .entry)) (now (output .entry)) (now (middle .entry)) (now (singles .entry)) (now (bytes .entry))
+    ensures { λ r. ⌜ Scales9 w h (now (picture .entry)) (now (output .entry)) (now (middle .entry)) (now (singles .entry))
+        (now (bytes .entry))
         (now (output .exit)) (now (middle .exit)) (now (singles .exit)) (now (bytes .exit)) r ⌝ }
 {
     let n = words_of(SIDE9, w, h);

@@ -26,8 +26,11 @@ same-length-2 c = search needs
 returns : tie.Need-returns
 returns c =
     let a = c .before .before .before .before .before .before .before .before .before .before .before .before .before .before .before .before .before .before .before .before .args in
-    passed (a .w) (a .h) (words (a .w) (a .picture .now)) (a .g) (a .v) (a .q) (a .t) (a .cut) (a .from) _ (a .singles .now) _ _ (a .bytes .now) _ _ (c .before .before .before .before .before .before .before .before .before .before .before .before .before .before .before .before .before .before .before .before .pre)
-    (c .before .before .before .before .before .before .before .before .before .before .before .before .before .before .before .metrics-rect .ensures) (c .before .before .before .before .before .before .before .before .before .before .before .weights-rect .ensures) (c .before .before .before .before .before .before .junctions-from .ensures) (c .before .before .tags-rect .ensures)
+    passed (a .w) (a .h) (words (a .w) (a .picture .now)) (a .g) (a .v) (a .q) (a .t) (a .cut) (a .from) _ (a .singles .now) _ _ (a .bytes .now) _ _
+    (c .before .before .before .before .before .before .before .before .before .before .before .before .before .before .before .before .before .before .before .before .pre)
+    (c .before .before .before .before .before .before .before .before .before .before .before .before .before .before .before .metrics-rect .ensures)
+    (c .before .before .before .before .before .before .before .before .before .before .before .weights-rect .ensures)
+    (c .before .before .before .before .before .before .junctions-from .ensures) (c .before .before .tags-rect .ensures)
 
 pub passes-spec : {M : Type 1} → statement M
 passes-spec =

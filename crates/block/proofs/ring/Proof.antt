@@ -44,7 +44,8 @@ sub-t17 c = search needs
 returns : tie.Need-returns
 returns c =
     let a = c .before .before .before .before .args in
-    sides (a .w) (a .h) (a .x) (a .y) (a .k) (a .r) (a .a) _ _ _ _ (c .before .before .before .less .ensures) (c .before .before .less2 .ensures) (c .before .least .ensures) (c .least2 .ensures)
+    sides (a .w) (a .h) (a .x) (a .y) (a .k) (a .r) (a .a) _ _ _ _ (c .before .before .before .less .ensures) (c .before .before .less2 .ensures)
+    (c .before .least .ensures) (c .least2 .ensures)
 
 pub ring-spec : {M : Type 1} → statement M
 ring-spec =

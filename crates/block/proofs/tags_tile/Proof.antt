@@ -1,12 +1,10 @@
 -- `block::tags_tile` meets its contract: the rectangles round the tile hold all that its tags depend on. Assumes nothing.
-use native.Mathlib.Omega.{arith}
 use lib.Dec.{lit≤}
-use mathlib.Core.Path.{_≡_, refl, _∙_, ap}
+use mathlib.Core.Path.{_≡_}
 use Prim.Native.Nat.{ℕ}
-use mathlib.Core.List.{List}
 use Rattle.picture.specs.Picture.{words}
 use Rattle.field.specs.declared.grid.Grid.{Grid}
-use Rattle.block.specs.Window.{Rooms, Passed, ringOf, tileOf}
+use Rattle.block.specs.Window.{Rooms}
 use Rattle.block.specs.Passes.{tile-rooms, tile-tagged}
 use borrow.Author.Needs.{needs}
 use Rattle.block.proofs.tags_tile.Statement.{statement}
@@ -31,7 +29,8 @@ slice-aggregate-passes c = search needs
 passes-requires : tie.Need-passes-requires
 passes-requires c κs =
     let p = c .before .before .before .before .before .before .before .pre in
-    roomy (c .before .before .before .before .ring .ensures) (c .before .before .before .ring2 .ensures) (c .before .before .ring3 .ensures) (tile-rooms (p .0) _ _ _ (p .1 .0) (lit≤ tt) (p .1 .1))
+    roomy (c .before .before .before .before .ring .ensures) (c .before .before .before .ring2 .ensures) (c .before .before .ring3 .ensures)
+    (tile-rooms (p .0) _ _ _ (p .1 .0) (lit≤ tt) (p .1 .1))
 
 same-length : tie.Need-same-length
 same-length c = search needs

@@ -36,7 +36,8 @@ returns : tie.Need-returns
 unfolding wordsByTag
 returns c =
     λ i.
-    c .before .before .before .before .before .before .before .before .tag-word .ensures i ∷ c .before .before .before .before .before .before .before .tag-word2 .ensures i ∷ c .before .before .before .before .before .before .tag-word3 .ensures i
+    c .before .before .before .before .before .before .before .before .tag-word .ensures i
+    ∷ c .before .before .before .before .before .before .before .tag-word2 .ensures i ∷ c .before .before .before .before .before .before .tag-word3 .ensures i
     ∷ c .before .before .before .before .before .tag-word4 .ensures i ∷ c .before .before .before .before .tag-word5 .ensures i ∷ c .before .before .before .tag-word6 .ensures i
     ∷ c .before .before .tag-word7 .ensures i ∷ c .before .tag-word8 .ensures i ∷ c .tag-word9 .ensures i
     ∷ []

@@ -1,6 +1,5 @@
 -- `field::metric_at` meets its contract: the five words are those near the pixel. Assumes nothing.
 use borrow.Author.Needs.{needs}
-use native.Mathlib.Omega.{arith}
 use mathlib.Core.Path.{_∙_}
 use lib.IntN.{pos, negsuc}
 use Rattle.picture.specs.Picture.{words}

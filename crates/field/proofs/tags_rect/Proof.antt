@@ -1,9 +1,9 @@
 -- `field::tags_rect` meets its contract: the invariant says that the first y rows stand from the cut on. Assumes nothing.
 use borrow.Author.Needs.{needs}
 use native.Mathlib.Omega.{arith}
-use mathlib.Core.Path.{_≡_, refl, sym, _∙_, ap}
+use mathlib.Core.Path.{_≡_, refl, ap}
 use mathlib.Core.List.{List}
-use Prim.Native.Nat.{ℕ, _+_, _*_, _-_, _≤_, _<_}
+use Prim.Native.Nat.{ℕ, _+_, _*_, _-_, _≤_}
 use native.Mathlib.Nat.{zero-mul}
 use lib.ListN.{take}
 use Rattle.picture.specs.Fill.{Filled, fill-none, fill-more, fill-done, fill-take, chunk, add-one-mul}

@@ -1,13 +1,12 @@
 -- `picture::shift` meets its contract. Assumes nothing.
 use borrow.Author.Needs.{needs}
 use native.Mathlib.Omega.{arith}
-use mathlib.Core.Path.{_≡_, _∙_, sym, ap}
-use Prim.Native.Nat.{_^_, _<_}
-use lib.IntN.{ℤ, pos, _+ℤ_}
+use mathlib.Core.Path.{_≡_}
+use lib.IntN.{pos, _+ℤ_}
 use mir.Syntax.{w32, w64}
 use mir.Val.{toZ, ofZ}
 use mir.ValLaws.{toZ-ofZ, toZ-pos}
-use Rattle.picture.specs.Picture.{clampZ, moved}
+use Rattle.picture.specs.Picture.{moved}
 use Rattle.picture.proofs.Clamps.{sum-fits, wider}
 use Rattle.picture.proofs.shift.Statement.{statement}
 use Rattle.picture.proofs.shift.Tie as tie

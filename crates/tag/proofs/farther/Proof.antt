@@ -1,16 +1,8 @@
 -- `tag::farther` meets its contract. Assumes nothing.
-use mathlib.Core.Path.{sym}
 use borrow.Author.Needs.{needs}
-use Rattle.tag.specs.Words.{aroundOf, farOf}
-use Rattle.tag.proofs.Exits.{or-none, far-none}
+use Rattle.tag.specs.Words.{farOf}
 use Rattle.tag.proofs.farther.Statement.{statement}
 use Rattle.tag.proofs.farther.Tie as tie
-
-returns : tie.Need-returns
-returns c =
-    let a = c .before .before .args in
-    let z = or-none (a .p .h) (a .p .v) (c .if1 .taken) in
-    sym (far-none (a .p) (a .n) (aroundOf (a .l2) (a .r2) (a .u2) (a .d2)) (aroundOf (a .l3) (a .r3) (a .u3) (a .d3)) (z .0) (z .1))
 
 around-requires : tie.Need-around-requires
 around-requires c κs = search needs
@@ -33,9 +25,9 @@ far-corners-requires c κs = search needs
 far-mids-requires : tie.Need-far-mids-requires
 far-mids-requires c κs = search needs
 
-returns-2 : tie.Need-returns-2
+returns : tie.Need-returns
 unfolding farOf
-returns-2 c =
+returns c =
     rw (
       c .far-mids .ensures,
       c .before .far-corners .ensures,
@@ -50,7 +42,6 @@ pub farther-spec : {M : Type 1} → statement M
 farther-spec =
     tie.close
     (tie.spec
-    returns
     around-requires
     around-requires-2
     level4-requires
@@ -58,4 +49,4 @@ farther-spec =
     level6-requires
     far-corners-requires
     far-mids-requires
-    returns-2)
+    returns)

@@ -1,22 +1,9 @@
 -- `tag::trace_edges` meets its contract. Assumes nothing.
-use mathlib.Core.Path.{sym, _∙_}
+use mathlib.Core.Path.{_∙_}
 use borrow.Author.Needs.{needs}
-use Rattle.tag.proofs.Exits.{whole, stops-early, stops-late}
+use Rattle.tag.proofs.Exits.{whole}
 use Rattle.tag.proofs.trace_edges.Statement.{statement}
 use Rattle.tag.proofs.trace_edges.Tie as tie
-
-bare-requires : tie.Need-bare-requires
-bare-requires c κs = search needs
-
-split-requires : tie.Need-split-requires
-split-requires c κs = search needs
-
-returns : tie.Need-returns
-returns c =
-    let a = c .before .before .before .args in
-    c .split .ensures
-    ∙ stops-early (a .e) (a .dl) (a .dl2) (a .dl3) (a .dr) (a .dr2) (a .dr3) (a .du) (a .du2) (a .du3) (a .dd) (a .dd2) (a .dd3)
-    (sym (c .before .before .bare .ensures) ∙ c .before .if1 .taken)
 
 word-requires : tie.Need-word-requires
 word-requires c κs = search needs
@@ -27,54 +14,35 @@ around-requires c κs = search needs
 level4-near-requires : tie.Need-level4-near-requires
 level4-near-requires c κs = search needs
 
-split-requires-2 : tie.Need-split-requires-2
-split-requires-2 c κs = search needs
-
-returns-2 : tie.Need-returns-2
-returns-2 c =
-    let a = c .before .before .before .before .before .before .before .before .args in
-    c .split2 .ensures
-    ∙ stops-late (a .e) (a .dl) (a .dl2) (a .dl3) (a .dr) (a .dr2) (a .dr3) (a .du) (a .du2) (a .du3) (a .dd) (a .dd2) (a .dd3)
-    (rw (
-      c .before .before .before .level4-near .ensures,
-      c .before .before .before .before .around .ensures,
-      c .before .before .before .before .before .word .ensures,
-    ) at (c .before .if2 .taken))
-
 farther-requires : tie.Need-farther-requires
 farther-requires c κs = search needs
 
 tags-word-requires : tie.Need-tags-word-requires
 tags-word-requires c κs = search needs
 
-split-requires-3 : tie.Need-split-requires-3
-split-requires-3 c κs = search needs
+split-requires : tie.Need-split-requires
+split-requires c κs = search needs
 
-returns-3 : tie.Need-returns-3
-returns-3 c =
-    let a = c .before .before .before .before .before .before .before .before .before .before .args in
+returns : tie.Need-returns
+returns c =
+    let a = c .before .before .before .before .before .before .args in
     (rw (
       c .before .tags-word .ensures,
       c .before .before .farther .ensures,
-      c .before .before .before .before .before .level4-near .ensures,
-      c .before .before .before .before .before .before .around .ensures,
-      c .before .before .before .before .before .before .before .word .ensures,
-    ) at (c .split3 .ensures))
+      c .before .before .before .level4-near .ensures,
+      c .before .before .before .before .around .ensures,
+      c .before .before .before .before .before .word .ensures,
+    ) at (c .split .ensures))
     ∙ whole (a .e) (a .dl) (a .dl2) (a .dl3) (a .dr) (a .dr2) (a .dr3) (a .du) (a .du2) (a .du3) (a .dd) (a .dd2) (a .dd3)
 
 pub trace-edges-spec : {M : Type 1} → statement M
 trace-edges-spec =
     tie.close
     (tie.spec
-    bare-requires
-    split-requires
-    returns
     word-requires
     around-requires
     level4-near-requires
-    split-requires-2
-    returns-2
     farther-requires
     tags-word-requires
-    split-requires-3
-    returns-3)
+    split-requires
+    returns)

@@ -34,7 +34,8 @@ put-refused-requires : tie.Need-put-refused-requires
 put-refused-requires c κs = omega (arith, refused-most 9)
 
 returns : tie.Need-returns
-returns c = prints-long (c .before .before .before .before .args .file .now) (c .before .before .before .before .args .text .now) _ _ (omega (arith, c .before .before .if1 .taken)) (c .put-refused .ensures)
+returns c = prints-long (c .before .before .before .before .args .file .now) (c .before .before .before .before .args .text .now) _ _
+    (omega (arith, c .before .before .if1 .taken)) (c .put-refused .ensures)
 
 slice-aggregate-read-page : tie.Need-slice-aggregate-read-page
 slice-aggregate-read-page c = search needs

@@ -34,7 +34,8 @@ put-byte-requires : tie.Need-put-byte-requires
 put-byte-requires c κs = omega (arith, later (c .before))
 
 put-digits-requires-2 : tie.Need-put-digits-requires-2
-put-digits-requires-2 c κs = omega (arith, later (c .before .before .before .before .before), c .before .before .before .put-byte .ensures .next-is, c .before .before .before .put-byte .kept .1 .0)
+put-digits-requires-2 c κs = omega
+    (arith, later (c .before .before .before .before .before), c .before .before .before .put-byte .ensures .next-is, c .before .before .before .put-byte .kept .1 .0)
 
 same-length-2 : tie.Need-same-length-2
 same-length-2 c = search needs

@@ -14,20 +14,30 @@ words-of-requires : tie.Need-words-of-requires
 words-of-requires c κs = lit≤ tt
 
 mul-refusal : tie.Need-mul-refusal
-mul-refusal c = omega (arith, within-small 2048 (c .before .before .before .before .before .args .w) (c .before .before .before .before .before .args .h) (c .words-of .result) (lit≤ tt) (c .words-of .ensures))
+mul-refusal c = omega (
+  arith,
+  within-small 2048 (c .before .before .before .before .before .args .w) (c .before .before .before .before .before .args .h) (c .words-of .result) (lit≤ tt)
+      (c .words-of .ensures),
+)
 
 mul-refusal-2 : tie.Need-mul-refusal-2
-mul-refusal-2 c = omega (arith, within-small 2048 (c .before .before .before .before .before .args .w) (c .before .before .before .before .before .args .h) (c .words-of .result) (lit≤ tt) (c .words-of .ensures))
+mul-refusal-2 c = omega (
+  arith,
+  within-small 2048 (c .before .before .before .before .before .args .w) (c .before .before .before .before .before .args .h) (c .words-of .result) (lit≤ tt)
+      (c .words-of .ensures),
+)
 
 refusal-requires : tie.Need-refusal-requires
 refusal-requires c κs = tt
 
 -- the number is that of the definition
-number : (c : tie.After-refusal) → c .refusal .result ≡ refusal3 (c .before .before .before .before .before .before .args .w) (c .before .before .before .before .before .before .args .h) (c .before .before .before .before .before .before .args .picture .now) (c .before .before .before .before .before .before .args .output .now) (c .before .before .before .before .before .before .args .singles .now) (c .before .before .before .before .before .before .args .bytes .now)
+number : (c : tie.After-refusal) → let a = c .before .before .before .before .before .before .args in
+    c .refusal .result ≡ refusal3 (a .w) (a .h) (a .picture .now) (a .output .now) (a .singles .now) (a .bytes .now)
 number c =
     let a = c .before .before .before .before .before .before .args in
     c .refusal .ensures
-    ∙ ap (λ (n : ℕ). refusalOf 2048 (a .w) (a .h) n (9 * n) 0 (8 * n) (length (a .picture .now)) (length (a .output .now)) 0 (length (a .singles .now)) (length (a .bytes .now))) (c .before .words-of .ensures)
+    ∙ ap (λ (n : ℕ). refusalOf 2048 (a .w) (a .h) n (9 * n) 0 (8 * n) (length (a .picture .now)) (length (a .output .now)) 0 (length (a .singles .now))
+    (length (a .bytes .now))) (c .before .words-of .ensures)
     ∙ refusal-within 2048 (a .w) (a .h) (λ n. 9 * n) (λ n. 0) (λ n. 8 * n) (length (a .picture .now)) (length (a .output .now)) 0 (length (a .singles .now)) (length (a .bytes .now))
 
 returns : tie.Need-returns
@@ -53,7 +63,13 @@ returns-2 : tie.Need-returns-2
 returns-2 c =
     let z = c .before .before .before .before .before .before .before .before .before .before .if1 .left in
     let e = c .before .before .before .before .before .before .enlarge .ensures in
-    record { refusal-now = number (c .before .before .before .before .before .before .before .before .before .before .before); output-now = written _ _ _ _ z (e .output-is); singles-now = written _ _ _ _ z (e .singles-are); bytes-now = written _ _ _ _ z (e .bytes-are) }
+    record {
+      refusal-now = number (c .before .before .before .before .before .before .before .before .before .before .before);
+      output-now = written _ _ _ _ z
+          (e .output-is);
+      singles-now = written _ _ _ _ z (e .singles-are);
+      bytes-now = written _ _ _ _ z (e .bytes-are);
+    }
 
 pub scale-spec : {M : Type 1} → statement M
 scale-spec =

@@ -21,33 +21,49 @@ words-of-requires : tie.Need-words-of-requires
 words-of-requires c κs = lit≤ tt
 
 mul-refusal : tie.Need-mul-refusal
-mul-refusal c = omega (arith, within-small 682 (c .before .before .before .before .before .before .args .w) (c .before .before .before .before .before .before .args .h) (c .words-of .result) (lit≤ tt) (c .words-of .ensures))
+mul-refusal c = omega (
+  arith,
+  within-small 682 (c .before .before .before .before .before .before .args .w) (c .before .before .before .before .before .before .args .h)
+      (c .words-of .result) (lit≤ tt) (c .words-of .ensures),
+)
 
 mul-refusal-2 : tie.Need-mul-refusal-2
-mul-refusal-2 c = omega (arith, within-small 682 (c .before .before .before .before .before .before .args .w) (c .before .before .before .before .before .before .args .h) (c .words-of .result) (lit≤ tt) (c .words-of .ensures))
+mul-refusal-2 c = omega (
+  arith,
+  within-small 682 (c .before .before .before .before .before .before .args .w) (c .before .before .before .before .before .before .args .h)
+      (c .words-of .result) (lit≤ tt) (c .words-of .ensures),
+)
 
 mul-refusal-3 : tie.Need-mul-refusal-3
-mul-refusal-3 c = omega (arith, within-small 682 (c .before .before .before .before .before .before .args .w) (c .before .before .before .before .before .before .args .h) (c .words-of .result) (lit≤ tt) (c .words-of .ensures))
+mul-refusal-3 c = omega (
+  arith,
+  within-small 682 (c .before .before .before .before .before .before .args .w) (c .before .before .before .before .before .before .args .h)
+      (c .words-of .result) (lit≤ tt) (c .words-of .ensures),
+)
 
 refusal-requires : tie.Need-refusal-requires
 refusal-requires c κs = tt
 
 -- the number is that of the definition
-number : (c : tie.After-refusal) → c .refusal .result ≡ refusal9 (c .before .before .before .before .before .before .before .args .w) (c .before .before .before .before .before .before .before .args .h) (c .before .before .before .before .before .before .before .args .picture .now) (c .before .before .before .before .before .before .before .args .output .now) (c .before .before .before .before .before .before .before .args .middle .now) (c .before .before .before .before .before .before .before .args .singles .now) (c .before .before .before .before .before .before .before .args .bytes .now)
+number : (c : tie.After-refusal) → let a = c .before .before .before .before .before .before .before .args in
+    c .refusal .result ≡ refusal9 (a .w) (a .h) (a .picture .now) (a .output .now) (a .middle .now) (a .singles .now) (a .bytes .now)
 number c =
     let a = c .before .before .before .before .before .before .before .args in
     c .refusal .ensures
-    ∙ ap (λ (n : ℕ). refusalOf 682 (a .w) (a .h) n (81 * n) (9 * n) (72 * n) (length (a .picture .now)) (length (a .output .now)) (length (a .middle .now)) (length (a .singles .now)) (length (a .bytes .now))) (c .before .words-of .ensures)
-    ∙ refusal-within 682 (a .w) (a .h) (λ n. 81 * n) (λ n. 9 * n) (λ n. 72 * n) (length (a .picture .now)) (length (a .output .now)) (length (a .middle .now)) (length (a .singles .now)) (length (a .bytes .now))
+    ∙ ap (λ (n : ℕ). refusalOf 682 (a .w) (a .h) n (81 * n) (9 * n) (72 * n) (length (a .picture .now)) (length (a .output .now)) (length (a .middle .now))
+    (length (a .singles .now)) (length (a .bytes .now))) (c .before .words-of .ensures)
+    ∙ refusal-within 682 (a .w) (a .h) (λ n. 81 * n) (λ n. 9 * n) (λ n. 72 * n) (length (a .picture .now)) (length (a .output .now)) (length (a .middle .now))
+    (length (a .singles .now)) (length (a .bytes .now))
 
 -- where the number is 0 the sides are within the limit and the buffers long enough
 fits : (c : tie.Else1) → let a = c .before .before .before .before .before .before .before .before .args in
-    Accepted 682 (a .w) (a .h) (a .w * a .h) (81 * (a .w * a .h)) (9 * (a .w * a .h)) (72 * (a .w * a .h)) (length (a .picture .now)) (length (a .output .now)) (length (a .middle .now)) (length (a .singles .now)) (length (a .bytes .now))
+    Accepted 682 (a .w) (a .h) (a .w * a .h) (81 * (a .w * a .h)) (9 * (a .w * a .h)) (72 * (a .w * a .h)) (length (a .picture .now)) (length (a .output .now))
+    (length (a .middle .now)) (length (a .singles .now)) (length (a .bytes .now))
 fits c = let a = c .before .before .before .before .before .before .before .before .args in accepted 682 (a .w) (a .h) _ _ _ _ _ _ _ _ _ (sym (number (c .before)) ∙ c .if1 .left)
 
 -- and the counted words are those of the picture
-counted : (c : tie.Else1) → c .before .before .words-of .result ≡ c .before .before .before .before .before .before .before .before .args .w * c .before .before .before .before .before .before .before .before .args .h
-counted c = c .before .before .words-of .ensures ∙ within-is 682 (c .before .before .before .before .before .before .before .before .args .w) (c .before .before .before .before .before .before .before .before .args .h) (fits c .wide) (fits c .high)
+counted : (c : tie.Else1) → let a = c .before .before .before .before .before .before .before .before .args in c .before .before .words-of .result ≡ a .w * a .h
+counted c = let a = c .before .before .before .before .before .before .before .before .args in c .before .before .words-of .ensures ∙ within-is 682 (a .w) (a .h) (fits c .wide) (fits c .high)
 
 returns : tie.Need-returns
 returns c =
@@ -57,7 +73,15 @@ returns c =
 enlarge-requires : tie.Need-enlarge-requires
 enlarge-requires c κs =
     let k = fits (c .before .before .before) in
-    record { wide = omega (arith, k .wide); high = omega (arith, k .high); picture = k .picture-fits; output = k .middle-fits; singles = omega (arith, k .singles-fit); bytes = omega (arith, k .bytes-fit) }
+    record {
+      wide = omega (arith, k .wide);
+      high = omega (arith, k .high);
+      picture = k .picture-fits;
+      output = k .middle-fits;
+      singles = omega
+          (arith, k .singles-fit);
+      bytes = omega (arith, k .bytes-fit);
+    }
 
 mul-enlarge : tie.Need-mul-enlarge
 mul-enlarge c = omega (arith, fits (c .before .before .before .before .before .before .before .before .before .before) .wide)
@@ -66,20 +90,41 @@ mul-enlarge-2 : tie.Need-mul-enlarge-2
 mul-enlarge-2 c = omega (arith, fits (c .before .before .before .before .before .before .before .before .before .before) .high)
 
 mul-enlarge-3 : tie.Need-mul-enlarge-3
-mul-enlarge-3 c = omega (arith, fits (c .before .before .before .before .before .before .before .before .before .before) .middle-fits, counted (c .before .before .before .before .before .before .before .before .before .before))
+mul-enlarge-3 c = omega (
+  arith,
+  fits (c .before .before .before .before .before .before .before .before .before .before) .middle-fits,
+  counted
+      (c .before .before .before .before .before .before .before .before .before .before),
+)
 
 slice-reshare-prefix-enlarge : tie.Need-slice-reshare-prefix-enlarge
-slice-reshare-prefix-enlarge c = omega (arith, fits (c .before .before .before .before .before .before .before .before .before .before) .middle-fits, counted (c .before .before .before .before .before .before .before .before .before .before), c .before .before .before .before .before .before .enlarge .kept .1 .1 .1 .0)
+slice-reshare-prefix-enlarge c = omega (
+  arith,
+  fits (c .before .before .before .before .before .before .before .before .before .before) .middle-fits,
+  counted
+      (c .before .before .before .before .before .before .before .before .before .before),
+  c .before .before .before .before .before .before .enlarge .kept .1 .1 .1 .0,
+)
 
 slice-aggregate-enlarge : tie.Need-slice-aggregate-enlarge
-slice-aggregate-enlarge c = sym (length-take-le _ _ (omega (arith, fits (c .before .before .before .before .before .before .before .before .before .before .before) .middle-fits, counted (c .before .before .before .before .before .before .before .before .before .before .before), c .before .before .before .before .before .before .before .enlarge .kept .1 .1 .1 .0)))
+slice-aggregate-enlarge c = sym
+    (length-take-le _ _ (omega (
+      arith,
+      fits (c .before .before .before .before .before .before .before .before .before .before .before) .middle-fits,
+      counted
+          (c .before .before .before .before .before .before .before .before .before .before .before),
+      c .before .before .before .before .before .before .before .enlarge .kept .1 .1 .1 .0,
+    )))
 
 enlarge-requires-2 : tie.Need-enlarge-requires-2
 enlarge-requires-2 c κs =
     let k = fits (c .before .before .before .before .before .before .before .before .before .before .before .before .before .before) in
     let n = counted (c .before .before .before .before .before .before .before .before .before .before .before .before .before .before) in
     let q = nine-words (c .before .before .before .before .before .before .before .before .before .before .before .before .before .before .before .before .before .before .before .before .before .before .args .w) (c .before .before .before .before .before .before .before .before .before .before .before .before .before .before .before .before .before .before .before .before .before .before .args .h) in
-    let m = length-take-le (9 * c .before .before .before .before .before .before .before .before .before .before .before .before .before .before .before .before .words-of .result) (c .before .before .before .before .before .before .before .before .before .before .enlarge .last .1 .1 .1 .0) (omega (arith, k .middle-fits, c .before .before .before .before .before .before .before .before .before .before .enlarge .kept .1 .1 .1 .0)) in
+    let m = length-take-le
+    (9 * c .before .before .before .before .before .before .before .before .before .before .before .before .before .before .before .before .words-of .result)
+    (c .before .before .before .before .before .before .before .before .before .before .enlarge .last .1 .1 .1 .0)
+    (omega (arith, k .middle-fits, c .before .before .before .before .before .before .before .before .before .before .enlarge .kept .1 .1 .1 .0)) in
     record {
       wide = omega (arith, k .wide);
       high = omega (arith, k .high);
@@ -114,8 +159,10 @@ returns-2 c =
     let g = words (3 * a .w) m in
     let u = 3 * a .w in
     let v = 3 * a .h in
-    let nine : length m ≡ 9 * n = scale-length (a .w) (a .h) f ∙ ap (λ (i : ℕ). 9 * i) (sym (counted (c .before .before .before .before .before .before .before .before .before .before .before .before .before .before .before .before .before .before .before .before .before))) in
-    let same : take (9 * n) (c .before .before .before .before .before .before .before .before .before .before .before .before .before .before .before .before .before .enlarge .last .1 .1 .1 .0) ≡ m = ap (take (9 * n)) (e .output-is) ∙ take-front m (a .middle .now) (9 * n) nine in
+    let nine : length m ≡ 9 * n = scale-length (a .w) (a .h) f ∙ ap (λ (i : ℕ). 9 * i)
+    (sym (counted (c .before .before .before .before .before .before .before .before .before .before .before .before .before .before .before .before .before .before .before .before .before))) in
+    let same : take (9 * n)
+    (c .before .before .before .before .before .before .before .before .before .before .before .before .before .before .before .before .before .enlarge .last .1 .1 .1 .0) ≡ m = ap (take (9 * n)) (e .output-is) ∙ take-front m (a .middle .now) (9 * n) nine in
     let q = nine-words (a .w) (a .h) in
     let s = singles-length (a .w) (a .h) f in
     let s′ = singles-length u v g in
@@ -127,12 +174,14 @@ returns-2 c =
       output-now = written _ _ _ _ z (d .output-is ∙ ap (λ (l : List ℕ). put 0 (scaleOf u v (words u l)) (a .output .now)) same);
       singles-now =
           written _ _ _ _ z
-          (d .singles-are ∙ ap (λ (l : List ℕ). put 0 (singlesOf u v (words u l)) (c .before .before .before .before .before .before .before .before .before .before .before .before .before .before .before .before .before .enlarge .last .1 .1 .1 .1 .0)) same
+          (d .singles-are ∙ ap (λ (l : List ℕ). put 0 (singlesOf u v (words u l))
+          (c .before .before .before .before .before .before .before .before .before .before .before .before .before .before .before .before .before .enlarge .last .1 .1 .1 .1 .0)) same
           ∙ ap (put 0 (singlesOf u v g)) (e .singles-are)
           ∙ put-over (singlesOf (a .w) (a .h) f) (singlesOf u v g) (a .singles .now) (omega arith) (omega (arith, k .singles-fit)));
       bytes-now =
           written _ _ _ _ z
-          (d .bytes-are ∙ ap (λ (l : List ℕ). put 0 (bytesOf u v (words u l)) (c .before .before .before .before .before .before .before .before .before .before .before .before .before .before .before .before .before .enlarge .last .1 .1 .1 .1 .1 .0)) same
+          (d .bytes-are ∙ ap (λ (l : List ℕ). put 0 (bytesOf u v (words u l))
+          (c .before .before .before .before .before .before .before .before .before .before .before .before .before .before .before .before .before .enlarge .last .1 .1 .1 .1 .1 .0)) same
           ∙ ap (put 0 (bytesOf u v g)) (e .bytes-are)
           ∙ put-over (bytesOf (a .w) (a .h) f) (bytesOf u v g) (a .bytes .now) (omega arith) (omega (arith, k .bytes-fit)));
     }

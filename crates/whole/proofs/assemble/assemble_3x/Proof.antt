@@ -1,9 +1,9 @@
 -- `whole::assemble::assemble_3x` meets its contract: the invariant says that the first y rows of blocks stand at the front. Assumes nothing.
 use native.Mathlib.Omega.{arith}
 use native.Mathlib.Nat.{zero-mul}
-use mathlib.Core.Path.{_≡_, refl, sym, _∙_, ap}
+use mathlib.Core.Path.{_≡_, ap}
 use mathlib.Core.List.{List}
-use Prim.Native.Nat.{ℕ, _+_, _*_, _-_, _≤_, _<_}
+use Prim.Native.Nat.{ℕ, _+_, _*_, _-_, _≤_}
 use Rattle.picture.specs.Picture.{words}
 use Rattle.picture.specs.Fill.{Filled, fill-none, fill-more, fill-done, chunk, add-one-mul}
 use Rattle.whole.specs.Whole.{rowsOf}
@@ -31,8 +31,13 @@ mul-rows c = search needs
 
 loop-holds : tie.Need-loop-holds Inv-loop μ-loop
 loop-holds c =
-    let a = c .before .before .before .args in
-    (omega arith, omega (arith, zero-mul (a .w * 4)), omega (arith, zero-mul (9 * a .w)), fill-none 0 (9 * a .w) (lines (a .w) (a .h) (a .picture .now) (a .tags .now)) (a .output .now) (omega arith))
+    let a = c .before .before .before .args in (
+      omega arith,
+      omega (arith, zero-mul (a .w * 4)),
+      omega (arith, zero-mul (9 * a .w)),
+      fill-none 0 (9 * a .w) (lines (a .w) (a .h) (a .picture .now) (a .tags .now))
+          (a .output .now) (omega arith),
+    )
 
 -- in a turn the row has room in both buffers
 room : (c : tie.In-loop Inv-loop μ-loop) (k : ℕ) → c .before .loop .y * k + k ≤ c .before .before .before .before .before .args .h * k

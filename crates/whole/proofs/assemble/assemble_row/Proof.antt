@@ -1,8 +1,7 @@
 -- `whole::assemble::assemble_row` meets its contract: the invariant says that the row's first x blocks stand side by side. Assumes nothing.
 use native.Mathlib.Omega.{arith}
-use mathlib.Core.Path.{_≡_, refl, sym, _∙_, ap}
-use mathlib.Core.List.{List, [], _∷_}
-use Prim.Native.Nat.{ℕ, _+_, _*_, _-_, _≤_}
+use mathlib.Core.Path.{_≡_, refl, _∙_, ap}
+use Prim.Native.Nat.{_+_, _*_, _-_, _≤_}
 use Rattle.picture.specs.Picture.{words}
 use Rattle.field.specs.Grid.{tagsAt}
 use Rattle.block.specs.Block.{blockFrom}
@@ -23,8 +22,13 @@ mul-ow c = omega arith
 
 loop-holds : tie.Need-loop-holds Inv-loop μ-loop
 loop-holds c =
-    let a = c .before .before .before .args in
-    (omega arith, omega arith, omega arith, blocks-none _ (a .at) (taggedBlock (a .w) (a .h) (words (a .w) (a .picture .now)) (a .tags .now) (a .from) (a .y)) (three-words (a .w) (a .h) (words (a .w) (a .picture .now)) (a .tags .now) (a .from) (a .y)) (a .output .now) (omega arith))
+    let a = c .before .before .before .args in (
+      omega arith,
+      omega arith,
+      omega arith,
+      blocks-none _ (a .at) (taggedBlock (a .w) (a .h) (words (a .w) (a .picture .now)) (a .tags .now) (a .from) (a .y))
+          (three-words (a .w) (a .h) (words (a .w) (a .picture .now)) (a .tags .now) (a .from) (a .y)) (a .output .now) (omega arith),
+    )
 
 load-tags-requires : tie.Need-load-tags-requires Inv-loop μ-loop
 load-tags-requires c κs = search needs
@@ -52,12 +56,14 @@ loop-again c =
     let at-loop = c .before .before .before .before .before .before .before in
     let s = at-loop .loop in
     let a = c .before .before .before .before .before .before .before .before .before .before .before .args in
-    let e = c .before .before .before .before .block-from .ensures ∙ ap (blockFrom (a .w) (a .h) (words (a .w) (a .picture .now)) (s .x) (a .y)) (c .before .before .before .before .before .load-tags .ensures ∙ ap (tagsAt (a .tags .now)) (s .inv .1)) in
+    let e = c .before .before .before .before .block-from .ensures ∙ ap (blockFrom (a .w) (a .h) (words (a .w) (a .picture .now)) (s .x) (a .y))
+    (c .before .before .before .before .before .load-tags .ensures ∙ ap (tagsAt (a .tags .now)) (s .inv .1)) in
     let q = word-lists (a .w) (a .h) (words (a .w) (a .picture .now)) (a .tags .now) (a .from) (a .y) (s .x) _ e in (
       omega arith,
       omega arith,
       omega arith,
-      blocks-more (3 * a .w) (a .at) (taggedBlock (a .w) (a .h) (words (a .w) (a .picture .now)) (a .tags .now) (a .from) (a .y)) (three-words (a .w) (a .h) (words (a .w) (a .picture .now)) (a .tags .now) (a .from) (a .y)) (a .output .now) (s .x) (omega arith) (omega arith)
+      blocks-more (3 * a .w) (a .at) (taggedBlock (a .w) (a .h) (words (a .w) (a .picture .now)) (a .tags .now) (a .from) (a .y))
+          (three-words (a .w) (a .h) (words (a .w) (a .picture .now)) (a .tags .now) (a .from) (a .y)) (a .output .now) (s .x) (omega arith) (omega arith)
           (s .output) (c .before .before .store-block .last .0) _ (s .o) (s .inv .3) (s .inv .2) (q .0) (q .1) (q .2) (c .before .before .store-block .ensures),
     )
 
@@ -68,7 +74,8 @@ returns : tie.Need-returns Inv-loop μ-loop
 returns c =
     let a = c .before .before .before .before .before .args in
     let s = c .before .loop in
-    blocks-done (3 * a .w) (a .at) (taggedBlock (a .w) (a .h) (words (a .w) (a .picture .now)) (a .tags .now) (a .from) (a .y)) (three-words (a .w) (a .h) (words (a .w) (a .picture .now)) (a .tags .now) (a .from) (a .y)) (a .output .now) (s .output) (s .x) (a .w) (s .inv .3) (omega arith) refl (omega arith)
+    blocks-done (3 * a .w) (a .at) (taggedBlock (a .w) (a .h) (words (a .w) (a .picture .now)) (a .tags .now) (a .from) (a .y))
+    (three-words (a .w) (a .h) (words (a .w) (a .picture .now)) (a .tags .now) (a .from) (a .y)) (a .output .now) (s .output) (s .x) (a .w) (s .inv .3) (omega arith) refl (omega arith)
 
 pub assemble-row-spec : {M : Type 1} → statement M
 assemble-row-spec =
