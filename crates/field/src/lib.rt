@@ -23,7 +23,8 @@ ghost use Rattle.metric.specs.Metric.{metrics};
 ghost use Rattle.metric.specs.Weight.{weights};
 ghost use Rattle.junction.specs.Junction.{junctions};
 ghost use Rattle.tag.specs.Tag.{tags};
-ghost use Rattle.field.specs.Grid.{ofMetric, ofWeights, ofJunctions, ofTags, metricField, weightsField, junctionsField, rowOf, rectOf};
+ghost use Rattle.field.specs.Grid.{ofMetric, ofWeights, ofJunctions, ofTags, metricField};
+ghost use Rattle.field.specs.Grid.{weightsField, junctionsField, rowOf, rectOf};
 ghost use Rattle.field.specs.Room.{Held, Around, Strip, Inner, Reads, Feeds};
 
 pub mod grid;
@@ -48,7 +49,8 @@ pub fn metric_at(picture: &[u32], w: u32, h: u32, x: u32, y: u32) -> Metric
 // The metrics of row y of the rectangle g, from the element `at` on.
 pub fn metrics_row(picture: &[u32], w: u32, h: u32, g: Grid, y: u32, singles: &mut [f32], at: usize)
     requires { ⌜ (w * h ≤ length (now picture)) × ((Strip g w h y) × (at + g .cols * 4 ≤ length (now singles))) ⌝ }
-    ensures { λ _. ⌜ now (singles .exit) ≡ put at (rowOf ofMetric g (metrics w h (words w (now (picture .entry)))) y) (now (singles .entry)) ⌝ }
+    ensures { λ _. ⌜ now (singles .exit)
+        ≡ put at (rowOf ofMetric g (metrics w h (words w (now (picture .entry)))) y) (now (singles .entry)) ⌝ }
 {
     let cols = g.cols;
     let x0 = g.x0;
@@ -65,7 +67,8 @@ pub fn metrics_row(picture: &[u32], w: u32, h: u32, g: Grid, y: u32, singles: &m
 // The metrics of the rectangle g, at the front of the singles.
 pub fn metrics_rect(picture: &[u32], w: u32, h: u32, g: Grid, singles: &mut [f32])
     requires { ⌜ (w * h ≤ length (now picture)) × ((Inner g w h) × (Held g (length (now singles)))) ⌝ }
-    ensures { λ _. ⌜ now (singles .exit) ≡ put 0 (rectOf ofMetric g (metrics w h (words w (now (picture .entry))))) (now (singles .entry)) ⌝ }
+    ensures { λ _. ⌜ now (singles .exit)
+        ≡ put 0 (rectOf ofMetric g (metrics w h (words w (now (picture .entry))))) (now (singles .entry)) ⌝ }
 {
     let cols = g.cols;
     let rows = g.rows;
@@ -110,7 +113,8 @@ pub fn weights_row(
     at: usize,
 )
     requires { ⌜ (Held g cut) × ((cut ≤ at) × ((Reads 1 1 g w h v y) × (at + v .cols * 4 ≤ length (now singles)))) ⌝ }
-    ensures { λ _. ⌜ now (singles .exit) ≡ put at (rowOf ofWeights v (weights w h (metricField g (take cut (now (singles .entry))))) y) (now (singles .entry)) ⌝ }
+    ensures { λ _. ⌜ now (singles .exit)
+        ≡ put at (rowOf ofWeights v (weights w h (metricField g (take cut (now (singles .entry))))) y) (now (singles .entry)) ⌝ }
 {
     let cols = v.cols;
     let x0 = v.x0;
@@ -127,7 +131,8 @@ pub fn weights_row(
 // The weights of the rectangle v, from the metrics of the rectangle g before `cut`, from `cut` on.
 pub fn weights_rect(singles: &mut [f32], cut: usize, g: Grid, w: u32, h: u32, v: Grid)
     requires { ⌜ (Held g cut) × ((Feeds 1 1 g w h v) × (cut + v .rows * (v .cols * 4) ≤ length (now singles))) ⌝ }
-    ensures { λ _. ⌜ now (singles .exit) ≡ put cut (rectOf ofWeights v (weights w h (metricField g (take cut (now (singles .entry)))))) (now (singles .entry)) ⌝ }
+    ensures { λ _. ⌜ now (singles .exit)
+        ≡ put cut (rectOf ofWeights v (weights w h (metricField g (take cut (now (singles .entry)))))) (now (singles .entry)) ⌝ }
 {
     let cols = v.cols;
     let rows = v.rows;
@@ -191,8 +196,11 @@ pub fn junctions_row(
     bytes: &mut [u8],
     at: usize,
 )
-    requires { ⌜ (Reads 1 1 g w h q y) × ((Held g (length (now m))) × ((Reads 1 1 v w h q y) × ((Held v (length (now s))) × (at + q .cols * 4 ≤ length (now bytes))))) ⌝ }
-    ensures { λ _. ⌜ now (bytes .exit) ≡ put at (rowOf ofJunctions q (junctions w h (metricField g (now (m .entry))) (weightsField v (now (s .entry)))) y) (now (bytes .entry)) ⌝ }
+    requires { ⌜ (Reads 1 1 g w h q y) × ((Held g (length (now m))) × ((Reads 1 1 v w h q y) × ((Held v (length (now s)))
+        × (at + q .cols * 4 ≤ length (now bytes))))) ⌝ }
+    ensures { λ _. ⌜ now (bytes .exit)
+        ≡ put at (rowOf ofJunctions q (junctions w h (metricField g (now (m .entry))) (weightsField v (now (s .entry)))) y)
+        (now (bytes .entry)) ⌝ }
 {
     let cols = q.cols;
     let x0 = q.x0;
@@ -217,8 +225,11 @@ pub fn junctions_rect(
     q: Grid,
     bytes: &mut [u8],
 )
-    requires { ⌜ (Feeds 1 1 g w h q) × ((Held g (length (now m))) × ((Feeds 1 1 v w h q) × ((Held v (length (now s))) × (Held q (length (now bytes)))))) ⌝ }
-    ensures { λ _. ⌜ now (bytes .exit) ≡ put 0 (rectOf ofJunctions q (junctions w h (metricField g (now (m .entry))) (weightsField v (now (s .entry))))) (now (bytes .entry)) ⌝ }
+    requires { ⌜ (Feeds 1 1 g w h q) × ((Held g (length (now m))) × ((Feeds 1 1 v w h q) × ((Held v (length (now s)))
+        × (Held q (length (now bytes)))))) ⌝ }
+    ensures { λ _. ⌜ now (bytes .exit)
+        ≡ put 0 (rectOf ofJunctions q (junctions w h (metricField g (now (m .entry))) (weightsField v (now (s .entry)))))
+        (now (bytes .entry)) ⌝ }
 {
     let cols = q.cols;
     let rows = q.rows;
@@ -289,7 +300,8 @@ pub fn tags_at(j: &[u8], g: Grid, w: u32, h: u32, x: u32, y: u32) -> Tags
 // The tags of row y of the rectangle q, from the junctions of the rectangle g before `cut`, from the element `at` on.
 pub fn tags_row(bytes: &mut [u8], cut: usize, g: Grid, w: u32, h: u32, q: Grid, y: u32, at: usize)
     requires { ⌜ (Held g cut) × ((cut ≤ at) × ((Reads 3 3 g w h q y) × (at + q .cols * 4 ≤ length (now bytes)))) ⌝ }
-    ensures { λ _. ⌜ now (bytes .exit) ≡ put at (rowOf ofTags q (tags w h (junctionsField g (take cut (now (bytes .entry))))) y) (now (bytes .entry)) ⌝ }
+    ensures { λ _. ⌜ now (bytes .exit)
+        ≡ put at (rowOf ofTags q (tags w h (junctionsField g (take cut (now (bytes .entry))))) y) (now (bytes .entry)) ⌝ }
 {
     let cols = q.cols;
     let x0 = q.x0;
@@ -306,7 +318,8 @@ pub fn tags_row(bytes: &mut [u8], cut: usize, g: Grid, w: u32, h: u32, q: Grid, 
 // The tags of the rectangle q, from the junctions of the rectangle g before `cut`, from `cut` on.
 pub fn tags_rect(bytes: &mut [u8], cut: usize, g: Grid, w: u32, h: u32, q: Grid)
     requires { ⌜ (Held g cut) × ((Feeds 3 3 g w h q) × (cut + q .rows * (q .cols * 4) ≤ length (now bytes))) ⌝ }
-    ensures { λ _. ⌜ now (bytes .exit) ≡ put cut (rectOf ofTags q (tags w h (junctionsField g (take cut (now (bytes .entry)))))) (now (bytes .entry)) ⌝ }
+    ensures { λ _. ⌜ now (bytes .exit)
+        ≡ put cut (rectOf ofTags q (tags w h (junctionsField g (take cut (now (bytes .entry)))))) (now (bytes .entry)) ⌝ }
 {
     let cols = q.cols;
     let rows = q.rows;

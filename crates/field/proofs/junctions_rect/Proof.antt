@@ -28,8 +28,12 @@ abbrev μ-loop : tie.MeasureT-loop
 
 loop-holds : tie.Need-loop-holds Inv-loop μ-loop
 loop-holds c =
-    let a = c .before .before .before .args in
-    (omega arith, omega (arith, zero-mul (a .q .cols * 4)), fill-none 0 (a .q .cols * 4) (lines (a .m .now) (a .g) (a .s .now) (a .v) (a .w) (a .h) (a .q) (a .q .y0)) (a .bytes .now) (omega arith))
+    let a = c .before .before .before .args in (
+      omega arith,
+      omega (arith, zero-mul (a .q .cols * 4)),
+      fill-none 0 (a .q .cols * 4) (lines (a .m .now) (a .g) (a .s .now) (a .v) (a .w) (a .h) (a .q) (a .q .y0))
+          (a .bytes .now) (omega arith),
+    )
 
 -- in a turn the row has room
 room : (c : tie.In-loop Inv-loop μ-loop)
@@ -72,7 +76,8 @@ loop-again c =
     let r = lines (a .m .now) (a .g) (a .s .now) (a .v) (a .w) (a .h) (a .q) (a .q .y0) in (
       omega arith,
       omega (arith, add-one-mul (s .y) k),
-      fill-more 0 k (s .y) r (a .bytes .now) (s .bytes) (c .before .before .junctions-row .last .1 .1 .1 .1 .1 .1 .1 .1 .0) (s .at) (lines (a .m .now) (a .g) (a .s .now) (a .v) (a .w) (a .h) (a .q) (a .q .y0) (s .y))
+      fill-more 0 k (s .y) r (a .bytes .now) (s .bytes) (c .before .before .junctions-row .last .1 .1 .1 .1 .1 .1 .1 .1 .0) (s .at)
+          (lines (a .m .now) (a .g) (a .s .now) (a .v) (a .w) (a .h) (a .q) (a .q .y0) (s .y))
           (λ j. row-length 0 ofJunctions (λ r. refl) (a .q) (junctions (a .w) (a .h) (metricField (a .g) (a .m .now)) (weightsField (a .v) (a .s .now))) (a .q .y0 + j))
           (omega (arith, room (c .before .before .before .before))) (s .inv .2) (s .inv .1) refl (c .before .before .junctions-row .ensures),
     )

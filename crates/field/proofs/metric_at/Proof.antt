@@ -21,13 +21,19 @@ word-in-requires-2 : tie.Need-word-in-requires-2
 word-in-requires-2 c κs = (c .before .before .three-at .ensures .before-in .inside, (c .before .three-at2 .ensures .before-in .inside, c .before .before .before .before .pre .1 .1))
 
 word-in-requires-3 : tie.Need-word-in-requires-3
-word-in-requires-3 c κs = (c .before .before .before .three-at .ensures .at-in .inside, (c .before .before .three-at2 .ensures .before-in .inside, c .before .before .before .before .before .pre .1 .1))
+word-in-requires-3 c κs =
+    let k = c .before .before in
+    (k .before .three-at .ensures .at-in .inside, (k .three-at2 .ensures .before-in .inside, k .before .before .before .pre .1 .1))
 
 word-in-requires-4 : tie.Need-word-in-requires-4
-word-in-requires-4 c κs = (c .before .before .before .before .three-at .ensures .after-in .inside, (c .before .before .before .three-at2 .ensures .before-in .inside, c .before .before .before .before .before .before .pre .1 .1))
+word-in-requires-4 c κs =
+    let k = c .before .before .before in
+    (k .before .three-at .ensures .after-in .inside, (k .three-at2 .ensures .before-in .inside, k .before .before .before .pre .1 .1))
 
 word-in-requires-5 : tie.Need-word-in-requires-5
-word-in-requires-5 c κs = (c .before .before .before .before .before .three-at .ensures .after-in .inside, (c .before .before .before .before .three-at2 .ensures .at-in .inside, c .before .before .before .before .before .before .before .pre .1 .1))
+word-in-requires-5 c κs =
+    let k = c .before .before .before .before in
+    (k .before .three-at .ensures .after-in .inside, (k .three-at2 .ensures .at-in .inside, k .before .before .before .pre .1 .1))
 
 metric-of-requires : tie.Need-metric-of-requires
 metric-of-requires c κs = search needs

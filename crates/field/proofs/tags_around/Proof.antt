@@ -16,43 +16,71 @@ seven-at-requires-2 : tie.Need-seven-at-requires-2
 seven-at-requires-2 c κs = search needs
 
 junctions-in-requires : tie.Need-junctions-in-requires
-junctions-in-requires c κs = (held-at (c .before .before .before .pre .0) (c .before .seven-at .ensures .at-in) (c .seven-at2 .ensures .at-in) (omega arith) (omega arith), c .before .before .before .pre .1)
+junctions-in-requires c κs = (
+  held-at (c .before .before .before .pre .0) (c .before .seven-at .ensures .at-in) (c .seven-at2 .ensures .at-in) (omega arith)
+      (omega arith),
+  c .before .before .before .pre .1,
+)
 
 junctions-in-requires-2 : tie.Need-junctions-in-requires-2
-junctions-in-requires-2 c κs = (held-at (c .before .before .before .before .pre .0) (c .before .before .seven-at .ensures .before1-in) (c .before .seven-at2 .ensures .at-in) (omega arith) (omega arith), c .before .before .before .before .pre .1)
+junctions-in-requires-2 c κs =
+    let k = c .before in
+    (held-at (k .before .before .before .pre .0) (k .before .seven-at .ensures .before1-in) (k .seven-at2 .ensures .at-in) (omega arith) (omega arith), k .before .before .before .pre .1)
 
 junctions-in-requires-3 : tie.Need-junctions-in-requires-3
-junctions-in-requires-3 c κs = (held-at (c .before .before .before .before .before .pre .0) (c .before .before .before .seven-at .ensures .before2-in) (c .before .before .seven-at2 .ensures .at-in) (omega arith) (omega arith), c .before .before .before .before .before .pre .1)
+junctions-in-requires-3 c κs =
+    let k = c .before .before in
+    (held-at (k .before .before .before .pre .0) (k .before .seven-at .ensures .before2-in) (k .seven-at2 .ensures .at-in) (omega arith) (omega arith), k .before .before .before .pre .1)
 
 junctions-in-requires-4 : tie.Need-junctions-in-requires-4
-junctions-in-requires-4 c κs = (held-at (c .before .before .before .before .before .before .pre .0) (c .before .before .before .before .seven-at .ensures .before3-in) (c .before .before .before .seven-at2 .ensures .at-in) (omega arith) (omega arith), c .before .before .before .before .before .before .pre .1)
+junctions-in-requires-4 c κs =
+    let k = c .before .before .before in
+    (held-at (k .before .before .before .pre .0) (k .before .seven-at .ensures .before3-in) (k .seven-at2 .ensures .at-in) (omega arith) (omega arith), k .before .before .before .pre .1)
 
 junctions-in-requires-5 : tie.Need-junctions-in-requires-5
-junctions-in-requires-5 c κs = (held-at (c .before .before .before .before .before .before .before .pre .0) (c .before .before .before .before .before .seven-at .ensures .after1-in) (c .before .before .before .before .seven-at2 .ensures .at-in) (omega arith) (omega arith), c .before .before .before .before .before .before .before .pre .1)
+junctions-in-requires-5 c κs =
+    let k = c .before .before .before .before in
+    (held-at (k .before .before .before .pre .0) (k .before .seven-at .ensures .after1-in) (k .seven-at2 .ensures .at-in) (omega arith) (omega arith), k .before .before .before .pre .1)
 
 junctions-in-requires-6 : tie.Need-junctions-in-requires-6
-junctions-in-requires-6 c κs = (held-at (c .before .before .before .before .before .before .before .before .pre .0) (c .before .before .before .before .before .before .seven-at .ensures .after2-in) (c .before .before .before .before .before .seven-at2 .ensures .at-in) (omega arith) (omega arith), c .before .before .before .before .before .before .before .before .pre .1)
+junctions-in-requires-6 c κs =
+    let k = c .before .before .before .before .before in
+    (held-at (k .before .before .before .pre .0) (k .before .seven-at .ensures .after2-in) (k .seven-at2 .ensures .at-in) (omega arith) (omega arith), k .before .before .before .pre .1)
 
 junctions-in-requires-7 : tie.Need-junctions-in-requires-7
-junctions-in-requires-7 c κs = (held-at (c .before .before .before .before .before .before .before .before .before .pre .0) (c .before .before .before .before .before .before .before .seven-at .ensures .after3-in) (c .before .before .before .before .before .before .seven-at2 .ensures .at-in) (omega arith) (omega arith), c .before .before .before .before .before .before .before .before .before .pre .1)
+junctions-in-requires-7 c κs =
+    let k = c .before .before .before .before .before .before in
+    (held-at (k .before .before .before .pre .0) (k .before .seven-at .ensures .after3-in) (k .seven-at2 .ensures .at-in) (omega arith) (omega arith), k .before .before .before .pre .1)
 
 junctions-in-requires-8 : tie.Need-junctions-in-requires-8
-junctions-in-requires-8 c κs = (held-at (c .before .before .before .before .before .before .before .before .before .before .pre .0) (c .before .before .before .before .before .before .before .before .seven-at .ensures .at-in) (c .before .before .before .before .before .before .before .seven-at2 .ensures .before1-in) (omega arith) (omega arith), c .before .before .before .before .before .before .before .before .before .before .pre .1)
+junctions-in-requires-8 c κs =
+    let k = c .before .before .before .before .before .before .before in
+    (held-at (k .before .before .before .pre .0) (k .before .seven-at .ensures .at-in) (k .seven-at2 .ensures .before1-in) (omega arith) (omega arith), k .before .before .before .pre .1)
 
 junctions-in-requires-9 : tie.Need-junctions-in-requires-9
-junctions-in-requires-9 c κs = (held-at (c .before .before .before .before .before .before .before .before .before .before .before .pre .0) (c .before .before .before .before .before .before .before .before .before .seven-at .ensures .at-in) (c .before .before .before .before .before .before .before .before .seven-at2 .ensures .before2-in) (omega arith) (omega arith), c .before .before .before .before .before .before .before .before .before .before .before .pre .1)
+junctions-in-requires-9 c κs =
+    let k = c .before .before .before .before .before .before .before .before in
+    (held-at (k .before .before .before .pre .0) (k .before .seven-at .ensures .at-in) (k .seven-at2 .ensures .before2-in) (omega arith) (omega arith), k .before .before .before .pre .1)
 
 junctions-in-requires-10 : tie.Need-junctions-in-requires-10
-junctions-in-requires-10 c κs = (held-at (c .before .before .before .before .before .before .before .before .before .before .before .before .pre .0) (c .before .before .before .before .before .before .before .before .before .before .seven-at .ensures .at-in) (c .before .before .before .before .before .before .before .before .before .seven-at2 .ensures .before3-in) (omega arith) (omega arith), c .before .before .before .before .before .before .before .before .before .before .before .before .pre .1)
+junctions-in-requires-10 c κs =
+    let k = c .before .before .before .before .before .before .before .before .before in
+    (held-at (k .before .before .before .pre .0) (k .before .seven-at .ensures .at-in) (k .seven-at2 .ensures .before3-in) (omega arith) (omega arith), k .before .before .before .pre .1)
 
 junctions-in-requires-11 : tie.Need-junctions-in-requires-11
-junctions-in-requires-11 c κs = (held-at (c .before .before .before .before .before .before .before .before .before .before .before .before .before .pre .0) (c .before .before .before .before .before .before .before .before .before .before .before .seven-at .ensures .at-in) (c .before .before .before .before .before .before .before .before .before .before .seven-at2 .ensures .after1-in) (omega arith) (omega arith), c .before .before .before .before .before .before .before .before .before .before .before .before .before .pre .1)
+junctions-in-requires-11 c κs =
+    let k = c .before .before .before .before .before .before .before .before .before .before in
+    (held-at (k .before .before .before .pre .0) (k .before .seven-at .ensures .at-in) (k .seven-at2 .ensures .after1-in) (omega arith) (omega arith), k .before .before .before .pre .1)
 
 junctions-in-requires-12 : tie.Need-junctions-in-requires-12
-junctions-in-requires-12 c κs = (held-at (c .before .before .before .before .before .before .before .before .before .before .before .before .before .before .pre .0) (c .before .before .before .before .before .before .before .before .before .before .before .before .seven-at .ensures .at-in) (c .before .before .before .before .before .before .before .before .before .before .before .seven-at2 .ensures .after2-in) (omega arith) (omega arith), c .before .before .before .before .before .before .before .before .before .before .before .before .before .before .pre .1)
+junctions-in-requires-12 c κs =
+    let k = c .before .before .before .before .before .before .before .before .before .before .before in
+    (held-at (k .before .before .before .pre .0) (k .before .seven-at .ensures .at-in) (k .seven-at2 .ensures .after2-in) (omega arith) (omega arith), k .before .before .before .pre .1)
 
 junctions-in-requires-13 : tie.Need-junctions-in-requires-13
-junctions-in-requires-13 c κs = (held-at (c .before .before .before .before .before .before .before .before .before .before .before .before .before .before .before .pre .0) (c .before .before .before .before .before .before .before .before .before .before .before .before .before .seven-at .ensures .at-in) (c .before .before .before .before .before .before .before .before .before .before .before .before .seven-at2 .ensures .after3-in) (omega arith) (omega arith), c .before .before .before .before .before .before .before .before .before .before .before .before .before .before .before .pre .1)
+junctions-in-requires-13 c κs =
+    let k = c .before .before .before .before .before .before .before .before .before .before .before .before in
+    (held-at (k .before .before .before .pre .0) (k .before .seven-at .ensures .at-in) (k .seven-at2 .ensures .after3-in) (omega arith) (omega arith), k .before .before .before .pre .1)
 
 trace-edges-requires : tie.Need-trace-edges-requires
 trace-edges-requires c κs = search needs
@@ -66,10 +94,14 @@ returns c =
     let f0 = junctionsField (a .g) (a .j .now) in
     c .trace-edges .ensures
     ∙ tags-same
-    (near-at f0 (a .w) (a .h) (a .x) (a .y) (pos 0) (pos 0) (xs .at-is) (ys .at-is) (c .before .before .before .before .before .before .before .before .before .before .before .before .before .junctions-in .ensures))
-    (near-at f0 (a .w) (a .h) (a .x) (a .y) (negsuc 0) (pos 0) (xs .before1-is) (ys .at-is) (c .before .before .before .before .before .before .before .before .before .before .before .before .junctions-in2 .ensures))
-    (near-at f0 (a .w) (a .h) (a .x) (a .y) (negsuc 1) (pos 0) (xs .before2-is) (ys .at-is) (c .before .before .before .before .before .before .before .before .before .before .before .junctions-in3 .ensures))
-    (near-at f0 (a .w) (a .h) (a .x) (a .y) (negsuc 2) (pos 0) (xs .before3-is) (ys .at-is) (c .before .before .before .before .before .before .before .before .before .before .junctions-in4 .ensures))
+    (near-at f0 (a .w) (a .h) (a .x) (a .y) (pos 0) (pos 0) (xs .at-is) (ys .at-is)
+    (c .before .before .before .before .before .before .before .before .before .before .before .before .before .junctions-in .ensures))
+    (near-at f0 (a .w) (a .h) (a .x) (a .y) (negsuc 0) (pos 0) (xs .before1-is) (ys .at-is)
+    (c .before .before .before .before .before .before .before .before .before .before .before .before .junctions-in2 .ensures))
+    (near-at f0 (a .w) (a .h) (a .x) (a .y) (negsuc 1) (pos 0) (xs .before2-is) (ys .at-is)
+    (c .before .before .before .before .before .before .before .before .before .before .before .junctions-in3 .ensures))
+    (near-at f0 (a .w) (a .h) (a .x) (a .y) (negsuc 2) (pos 0) (xs .before3-is) (ys .at-is)
+    (c .before .before .before .before .before .before .before .before .before .before .junctions-in4 .ensures))
     (near-at f0 (a .w) (a .h) (a .x) (a .y) (pos 1) (pos 0) (xs .after1-is) (ys .at-is) (c .before .before .before .before .before .before .before .before .before .junctions-in5 .ensures))
     (near-at f0 (a .w) (a .h) (a .x) (a .y) (pos 2) (pos 0) (xs .after2-is) (ys .at-is) (c .before .before .before .before .before .before .before .before .junctions-in6 .ensures))
     (near-at f0 (a .w) (a .h) (a .x) (a .y) (pos 3) (pos 0) (xs .after3-is) (ys .at-is) (c .before .before .before .before .before .before .before .junctions-in7 .ensures))

@@ -28,8 +28,12 @@ abbrev μ-loop : tie.MeasureT-loop
 
 loop-holds : tie.Need-loop-holds Inv-loop μ-loop
 loop-holds c =
-    let a = c .before .args in
-    (omega arith, omega (arith, zero-mul (a .q .cols * 4)), fill-none (a .cut) (a .q .cols * 4) (lines (take (a .cut) (a .bytes .now)) (a .g) (a .w) (a .h) (a .q) (a .q .y0)) (a .bytes .now) (omega arith))
+    let a = c .before .args in (
+      omega arith,
+      omega (arith, zero-mul (a .q .cols * 4)),
+      fill-none (a .cut) (a .q .cols * 4)
+          (lines (take (a .cut) (a .bytes .now)) (a .g) (a .w) (a .h) (a .q) (a .q .y0)) (a .bytes .now) (omega arith),
+    )
 
 -- in a turn the row has room
 room : (c : tie.In-loop Inv-loop μ-loop)
@@ -75,7 +79,8 @@ loop-again c =
       omega (arith, add-one-mul (s .y) k),
       fill-more (a .cut) k (s .y) r (a .bytes .now) (s .bytes) (c .before .before .tags-row .last .0) (s .at) (lines (take (a .cut) (s .bytes)) (a .g) (a .w) (a .h) (a .q) (a .q .y0) (s .y))
           (λ j. row-length 0 ofTags (λ r. refl) (a .q) (tags (a .w) (a .h) (junctionsField (a .g) (take (a .cut) (a .bytes .now)))) (a .q .y0 + j))
-          (omega (arith, room (c .before .before .before .before))) (s .inv .2) (s .inv .1) (ap (λ (z : List ℕ). lines z (a .g) (a .w) (a .h) (a .q) (a .q .y0) (s .y)) old) (c .before .before .tags-row .ensures),
+          (omega (arith, room (c .before .before .before .before))) (s .inv .2) (s .inv .1)
+          (ap (λ (z : List ℕ). lines z (a .g) (a .w) (a .h) (a .q) (a .q .y0) (s .y)) old) (c .before .before .tags-row .ensures),
     )
 
 same-length : tie.Need-same-length Inv-loop μ-loop
@@ -86,7 +91,8 @@ unfolding rectOf
 returns c =
     let a = c .before .before .before .args in
     let s = c .before .loop in
-    fill-done (a .cut) (a .q .cols * 4) (s .y) (a .q .rows) (lines (take (a .cut) (a .bytes .now)) (a .g) (a .w) (a .h) (a .q) (a .q .y0)) (a .bytes .now) (s .bytes) (s .inv .2) (omega arith)
+    fill-done (a .cut) (a .q .cols * 4) (s .y) (a .q .rows) (lines (take (a .cut) (a .bytes .now)) (a .g) (a .w) (a .h) (a .q) (a .q .y0)) (a .bytes .now) (s .bytes)
+    (s .inv .2) (omega arith)
 
 pub tags-rect-spec : {M : Type 1} → statement M
 tags-rect-spec =

@@ -16,28 +16,46 @@ three-at-requires-2 : tie.Need-three-at-requires-2
 three-at-requires-2 c κs = search needs
 
 metric-in-requires : tie.Need-metric-in-requires
-metric-in-requires c κs = (held-at (c .before .before .before .pre .0) (c .before .three-at .ensures .before-in) (c .three-at2 .ensures .before-in) (omega arith) (omega arith), c .before .before .before .pre .1)
+metric-in-requires c κs = (
+  held-at (c .before .before .before .pre .0) (c .before .three-at .ensures .before-in) (c .three-at2 .ensures .before-in) (omega arith)
+      (omega arith),
+  c .before .before .before .pre .1,
+)
 
 metric-in-requires-2 : tie.Need-metric-in-requires-2
-metric-in-requires-2 c κs = (held-at (c .before .before .before .before .pre .0) (c .before .before .three-at .ensures .at-in) (c .before .three-at2 .ensures .before-in) (omega arith) (omega arith), c .before .before .before .before .pre .1)
+metric-in-requires-2 c κs =
+    let k = c .before in
+    (held-at (k .before .before .before .pre .0) (k .before .three-at .ensures .at-in) (k .three-at2 .ensures .before-in) (omega arith) (omega arith), k .before .before .before .pre .1)
 
 metric-in-requires-3 : tie.Need-metric-in-requires-3
-metric-in-requires-3 c κs = (held-at (c .before .before .before .before .before .pre .0) (c .before .before .before .three-at .ensures .before-in) (c .before .before .three-at2 .ensures .at-in) (omega arith) (omega arith), c .before .before .before .before .before .pre .1)
+metric-in-requires-3 c κs =
+    let k = c .before .before in
+    (held-at (k .before .before .before .pre .0) (k .before .three-at .ensures .before-in) (k .three-at2 .ensures .at-in) (omega arith) (omega arith), k .before .before .before .pre .1)
 
 metric-in-requires-4 : tie.Need-metric-in-requires-4
-metric-in-requires-4 c κs = (held-at (c .before .before .before .before .before .before .pre .0) (c .before .before .before .before .three-at .ensures .at-in) (c .before .before .before .three-at2 .ensures .at-in) (omega arith) (omega arith), c .before .before .before .before .before .before .pre .1)
+metric-in-requires-4 c κs =
+    let k = c .before .before .before in
+    (held-at (k .before .before .before .pre .0) (k .before .three-at .ensures .at-in) (k .three-at2 .ensures .at-in) (omega arith) (omega arith), k .before .before .before .pre .1)
 
 metric-in-requires-5 : tie.Need-metric-in-requires-5
-metric-in-requires-5 c κs = (held-at (c .before .before .before .before .before .before .before .pre .0) (c .before .before .before .before .before .three-at .ensures .after-in) (c .before .before .before .before .three-at2 .ensures .at-in) (omega arith) (omega arith), c .before .before .before .before .before .before .before .pre .1)
+metric-in-requires-5 c κs =
+    let k = c .before .before .before .before in
+    (held-at (k .before .before .before .pre .0) (k .before .three-at .ensures .after-in) (k .three-at2 .ensures .at-in) (omega arith) (omega arith), k .before .before .before .pre .1)
 
 metric-in-requires-6 : tie.Need-metric-in-requires-6
-metric-in-requires-6 c κs = (held-at (c .before .before .before .before .before .before .before .before .pre .0) (c .before .before .before .before .before .before .three-at .ensures .before-in) (c .before .before .before .before .before .three-at2 .ensures .after-in) (omega arith) (omega arith), c .before .before .before .before .before .before .before .before .pre .1)
+metric-in-requires-6 c κs =
+    let k = c .before .before .before .before .before in
+    (held-at (k .before .before .before .pre .0) (k .before .three-at .ensures .before-in) (k .three-at2 .ensures .after-in) (omega arith) (omega arith), k .before .before .before .pre .1)
 
 metric-in-requires-7 : tie.Need-metric-in-requires-7
-metric-in-requires-7 c κs = (held-at (c .before .before .before .before .before .before .before .before .before .pre .0) (c .before .before .before .before .before .before .before .three-at .ensures .at-in) (c .before .before .before .before .before .before .three-at2 .ensures .after-in) (omega arith) (omega arith), c .before .before .before .before .before .before .before .before .before .pre .1)
+metric-in-requires-7 c κs =
+    let k = c .before .before .before .before .before .before in
+    (held-at (k .before .before .before .pre .0) (k .before .three-at .ensures .at-in) (k .three-at2 .ensures .after-in) (omega arith) (omega arith), k .before .before .before .pre .1)
 
 metric-in-requires-8 : tie.Need-metric-in-requires-8
-metric-in-requires-8 c κs = (held-at (c .before .before .before .before .before .before .before .before .before .before .pre .0) (c .before .before .before .before .before .before .before .before .three-at .ensures .after-in) (c .before .before .before .before .before .before .before .three-at2 .ensures .after-in) (omega arith) (omega arith), c .before .before .before .before .before .before .before .before .before .before .pre .1)
+metric-in-requires-8 c κs =
+    let k = c .before .before .before .before .before .before .before in
+    (held-at (k .before .before .before .pre .0) (k .before .three-at .ensures .after-in) (k .three-at2 .ensures .after-in) (omega arith) (omega arith), k .before .before .before .pre .1)
 
 weights-of-requires : tie.Need-weights-of-requires
 weights-of-requires c κs = search needs

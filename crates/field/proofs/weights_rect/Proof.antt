@@ -29,8 +29,12 @@ abbrev μ-loop : tie.MeasureT-loop
 
 loop-holds : tie.Need-loop-holds Inv-loop μ-loop
 loop-holds c =
-    let a = c .before .args in
-    (omega arith, omega (arith, zero-mul (a .v .cols * 4)), fill-none (a .cut) (a .v .cols * 4) (lines (take (a .cut) (a .singles .now)) (a .g) (a .w) (a .h) (a .v) (a .v .y0)) (a .singles .now) (omega arith))
+    let a = c .before .args in (
+      omega arith,
+      omega (arith, zero-mul (a .v .cols * 4)),
+      fill-none (a .cut) (a .v .cols * 4)
+          (lines (take (a .cut) (a .singles .now)) (a .g) (a .w) (a .h) (a .v) (a .v .y0)) (a .singles .now) (omega arith),
+    )
 
 -- in a turn the row has room
 room : (c : tie.In-loop Inv-loop μ-loop)
@@ -74,9 +78,11 @@ loop-again c =
     let old = fill-take (a .cut) (a .cut) k (s .y) r (a .singles .now) (s .singles) (omega arith) (omega arith) (s .inv .2) in (
       omega arith,
       omega (arith, add-one-mul (s .y) k),
-      fill-more (a .cut) k (s .y) r (a .singles .now) (s .singles) (c .before .before .weights-row .last .0) (s .at) (lines (take (a .cut) (s .singles)) (a .g) (a .w) (a .h) (a .v) (a .v .y0) (s .y))
+      fill-more (a .cut) k (s .y) r (a .singles .now) (s .singles) (c .before .before .weights-row .last .0) (s .at)
+          (lines (take (a .cut) (s .singles)) (a .g) (a .w) (a .h) (a .v) (a .v .y0) (s .y))
           (λ j. row-length nan ofWeights (λ r. refl) (a .v) (weights (a .w) (a .h) (metricField (a .g) (take (a .cut) (a .singles .now)))) (a .v .y0 + j))
-          (omega (arith, room (c .before .before .before .before))) (s .inv .2) (s .inv .1) (ap (λ (z : List Float). lines z (a .g) (a .w) (a .h) (a .v) (a .v .y0) (s .y)) old) (c .before .before .weights-row .ensures),
+          (omega (arith, room (c .before .before .before .before))) (s .inv .2) (s .inv .1)
+          (ap (λ (z : List Float). lines z (a .g) (a .w) (a .h) (a .v) (a .v .y0) (s .y)) old) (c .before .before .weights-row .ensures),
     )
 
 same-length : tie.Need-same-length Inv-loop μ-loop
@@ -87,7 +93,8 @@ unfolding rectOf
 returns c =
     let a = c .before .before .before .args in
     let s = c .before .loop in
-    fill-done (a .cut) (a .v .cols * 4) (s .y) (a .v .rows) (lines (take (a .cut) (a .singles .now)) (a .g) (a .w) (a .h) (a .v) (a .v .y0)) (a .singles .now) (s .singles) (s .inv .2) (omega arith)
+    fill-done (a .cut) (a .v .cols * 4) (s .y) (a .v .rows) (lines (take (a .cut) (a .singles .now)) (a .g) (a .w) (a .h) (a .v) (a .v .y0)) (a .singles .now)
+    (s .singles) (s .inv .2) (omega arith)
 
 pub weights-rect-spec : {M : Type 1} → statement M
 weights-rect-spec =
