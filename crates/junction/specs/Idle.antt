@@ -10,7 +10,7 @@ use Rattle.single.specs.Single.{f0, _⊕_}
 use Rattle.junction.specs.declared.Triple.{Triple}
 use Rattle.junction.specs.declared.Corner.{Corner}
 use Rattle.junction.specs.Flags.{above, at0, at1, at2, at3, dominanceOf, voteOf, injectOf, suppressOf, weightlessOf, activeCorners, numberOf}
-use Rattle.junction.specs.Zero.{Zero, zero, neg-zero, add-zero, twice-zero, min-zero, lt-zero}
+use Rattle.single.specs.Zero.{Zero, zero, neg-zero, add-zero, twice-zero, min-zero, lt-zero}
 
 abbrev none : Corner
 none = record { vote = false; active = false }

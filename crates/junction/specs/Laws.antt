@@ -15,7 +15,7 @@ use Rattle.junction.specs.Junction.{activeOf, packedOf, number, arbitrat
 use Rattle.junction.specs.Flags.{above, bit, pair, weightlessOf, activeCorners, conditionOf, numberOf, numbersOf}
 use Rattle.junction.specs.Same.{every, flagged, source, horizontal, vertical, orientation, active-0, active-1, active-2, active-3, packed-same, same}
 use Rattle.junction.specs.Idle.{weightless-idle, number-zero}
-use Rattle.junction.specs.Order.{lt-asym, level-lt}
+use Rattle.single.specs.Order.{lt-asym, level-lt}
 
 -- a junction number n at a corner whose h_edge and v_edge are h and v
 pub record Number (h v : Float) (n : ℕ) : Type 0 where

@@ -4,3 +4,5 @@ pub mod Near
 pub mod Laws
 pub mod Floats
 pub mod RootTheorems
+pub mod Order
+pub mod Zero
