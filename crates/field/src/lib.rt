@@ -1,5 +1,5 @@
 // The passes over a rectangle of pixels: each reads its neighbours' records at clamped places of a lent
-// buffer and writes one record a pixel, row by row. The whole picture and the window round one block are
+// buffer and writes one record a pixel, row by row. The whole picture and the rectangles round a tile are
 // the same passes on other rectangles.
 use grid::Grid;
 use grid::junctions_in;
