@@ -16,7 +16,8 @@ use Rattle.tag.specs.Tag.{offsetOf}
 use Rattle.field.specs.declared.grid.Grid.{Grid}
 use Rattle.field.specs.Room.{Held}
 use Rattle.tag.specs.declared.Tags.{Tags}
-use Rattle.block.specs.Block.{tagWord, wordsByTag, blockFrom}
+use Rattle.block.specs.Block.{tagWord, blockFrom}
+use Rattle.block.specs.Window.{wordsByTag}
 
 pub whole-rest : {E : Type 0} (cut : ℕ) (l : List E) → take (length l - cut) (drop cut l) ≡ drop cut l
 whole-rest cut l = take-all (length l - cut) (drop cut l) (omega (arith, length-drop cut l))

@@ -27,12 +27,6 @@ mid t = t / 9 % 9
 unfoldable pub tagWord : ℕ → ℕ → (ℕ → ℕ → ℕ) → ℕ → ℕ → ℕ → ℕ
 tagWord w h f x y tag = near w h f x y (offsetOf tag .dx) (offsetOf tag .dy)
 
--- the words of all nine tags
-unfoldable pub wordsByTag : ℕ → ℕ → (ℕ → ℕ → ℕ) → ℕ → ℕ → List ℕ
-wordsByTag w h f x y =
-    let word = tagWord w h f x y in
-    word 0 ∷ word 1 ∷ word 2 ∷ word 3 ∷ word 4 ∷ word 5 ∷ word 6 ∷ word 7 ∷ word 8 ∷ []
-
 -- the block of (x, y) from its tags, row by row: corners at the ends, mids between them, the pixel itself in the middle
 unfoldable pub blockFrom : ℕ → ℕ → (ℕ → ℕ → ℕ) → ℕ → ℕ → Tags → List ℕ
 blockFrom w h f x y t =

@@ -16,8 +16,8 @@ ghost use Rattle.picture.specs.Fill.{put};
 ghost use Rattle.field.specs.Grid.{ofJunctions, metricField, weightsField, rectOf};
 ghost use Rattle.field.specs.Room.{Held, Feeds};
 ghost use Rattle.junction.specs.Junction.{junctions};
-ghost use Rattle.block.specs.Block.{tagWord, wordsByTag, blockFrom};
-ghost use Rattle.block.specs.Window.{Tile, ringOf, Rooms, Passed, TileTagged};
+ghost use Rattle.block.specs.Block.{tagWord, blockFrom};
+ghost use Rattle.block.specs.Window.{Tile, ringOf, Rooms, Passed, TileTagged, wordsByTag};
 
 // The most columns and rows of a tile.
 pub const COLUMNS: u32 = 16;

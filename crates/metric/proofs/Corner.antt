@@ -12,7 +12,7 @@ use Rattle.single.specs.Single.{f0, f½, f1, _⊕_, _⊖_, _⊗_, _⊘_, maxOf,
 use Rattle.single.specs.Root.{rooted}
 use Rattle.metric.specs.Weight.{cornerWeightOf}
 use Rattle.metric.proofs.Nonneg.{shape, In, →le, nlt→le, le-refl', le-total', zero-le', up-to, self-in, widen, sub-mono'}
-use Rattle.metric.proofs.Nonneg.{sub-rooted, sub-swap, sub-in, add-in, mul-in, div-in, mul-zero', zero-mul', max-in, twice}
+use Rattle.metric.proofs.Nonneg.{sub-rooted, sub-swap, sub-in, add-in, mul-in, div-in, zero-mul', max-in, twice}
 use Rattle.metric.proofs.Under.{sub-under}
 
 abbrev In01 : Float → Type 0
@@ -181,8 +181,3 @@ module _ (e p0 p1 s0 s1 : Float) (i : In01 e) (j : In01 p0) (k : In01 p1) where
   pub weight-far : T (le f½ e) → cornerWeightOf e p0 p1 s0 s1 ≡ f0
   unfolding cornerWeightOf
   weight-far h = rw (far-is e i h, none-half, zero-mul' direction (toward .is), zero-mul' p0 (j .is)) (zero-mul' p1 (k .is))
-
-  pub weight-flat : (p0 ≡ f0) ⊎ (p1 ≡ f0) → cornerWeightOf e p0 p1 s0 s1 ≡ f0
-  unfolding cornerWeightOf
-  weight-flat (inl z) = ap (λ (x : Float). proximity ⊗ direction ⊗ x ⊗ p1) z ∙ ap (λ (x : Float). x ⊗ p1) (mul-zero' (proximity ⊗ direction) (both .is)) ∙ zero-mul' p1 (k .is)
-  weight-flat (inr z) = ap (λ (x : Float). proximity ⊗ direction ⊗ p0 ⊗ x) z ∙ mul-zero' (proximity ⊗ direction ⊗ p0) (product-in both j .is)

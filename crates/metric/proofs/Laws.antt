@@ -1,6 +1,6 @@
 -- What section 3 says of distances and weights, for all words and for all pictures. Assumes nothing.
 use mathlib.Core.Path.{_≡_}
-use mathlib.Core.Logic.{_⊎_, inl, inr, _↔_}
+use mathlib.Core.Logic.{_↔_}
 use Prim.Native.Nat.{ℕ, _%_, _^_}
 use lib.Dec.{T}
 use lib.Ieee.{Float, binary32, le, fits}
@@ -63,10 +63,6 @@ module _ {e p0 p1 : Float} (s0 s1 : Float) (i : UnitSingle e) (j : UnitSingle p0
   pub corner-weight-far : T (le f½ e) → cornerWeightOf e p0 p1 s0 s1 ≡ f0
   corner-weight-far = Corner.weight-far e p0 p1 s0 s1 (in01 i) (in01 j) (in01 k)
 
-  -- a primary distance of 0
-  pub corner-weight-flat : (p0 ≡ f0) ⊎ (p1 ≡ f0) → cornerWeightOf e p0 p1 s0 s1 ≡ f0
-  corner-weight-flat = Corner.weight-flat e p0 p1 s0 s1 (in01 i) (in01 j) (in01 k)
-
 -- ---- a pixel's weights, and all weights of a picture
 pub record UnitWeights (q : Weights) : Type 0 where
   pub w0 : UnitSingle (q .w0)
@@ -82,16 +78,6 @@ module _ (tl t l c r bl b br : Metric) (ul : UnitMetric l) (uc : UnitMetric c) (
     w1 = corner-weight-unit (t .r) (r .t) (ur .tl) (uc .r) (uc .t);
     w2 = corner-weight-unit (b .r) (br .t) (ub .tr) (uc .r) (ub .t);
     w3 = corner-weight-unit (bl .r) (bl .t) (ub .tl) (ul .r) (ub .t);
-  }
-
-  -- all four are 0 where the pixel equals those above and below it, or those at its left and right
-  pub flat-weights : ((c .t ≡ f0) × (b .t ≡ f0)) ⊎ ((l .r ≡ f0) × (c .r ≡ f0)) → weightsOf tl t l c r bl b br ≡ record { w0 = f0; w1 = f0; w2 = f0; w3 = f0 }
-  unfolding weightsOf
-  flat-weights z = λ k. record {
-    w0 = corner-weight-flat (tl .r) (l .t) (ul .tr) (ul .r) (uc .t) (elim z [ inl e ↦ inr (e .0) | inr e ↦ inl (e .0) ]) k;
-    w1 = corner-weight-flat (t .r) (r .t) (ur .tl) (uc .r) (uc .t) (elim z [ inl e ↦ inr (e .0) | inr e ↦ inl (e .1) ]) k;
-    w2 = corner-weight-flat (b .r) (br .t) (ub .tr) (uc .r) (ub .t) (elim z [ inl e ↦ inr (e .1) | inr e ↦ inl (e .1) ]) k;
-    w3 = corner-weight-flat (bl .r) (bl .t) (ub .tl) (ul .r) (ub .t) (elim z [ inl e ↦ inr (e .1) | inr e ↦ inl (e .0) ]) k;
   }
 
 pub weights-unit : (w h : ℕ) (f : ℕ → ℕ → ℕ) (x y : ℕ) → UnitWeights (weights w h (metrics w h f) x y)

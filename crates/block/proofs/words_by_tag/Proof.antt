@@ -1,6 +1,6 @@
 -- `block::words_by_tag` meets its contract, word by word. Assumes nothing.
 use mathlib.Core.List.{[], _∷_}
-use Rattle.block.specs.Block.{wordsByTag}
+use Rattle.block.specs.Window.{wordsByTag}
 use borrow.Author.Needs.{needs}
 use Rattle.block.proofs.words_by_tag.Statement.{statement}
 use Rattle.block.proofs.words_by_tag.Tie as tie

@@ -118,11 +118,12 @@ slice-aggregate-enlarge c = sym
 
 enlarge-requires-2 : tie.Need-enlarge-requires-2
 enlarge-requires-2 c κs =
-    let k = fits (c .before .before .before .before .before .before .before .before .before .before .before .before .before .before) in
-    let n = counted (c .before .before .before .before .before .before .before .before .before .before .before .before .before .before) in
-    let q = nine-words (c .before .before .before .before .before .before .before .before .before .before .before .before .before .before .before .before .before .before .before .before .before .before .args .w) (c .before .before .before .before .before .before .before .before .before .before .before .before .before .before .before .before .before .before .before .before .before .before .args .h) in
+    let s = c .before .before .before .before .before .before .before .before .before .before .before .before .before .before in
+    let k = fits (s) in
+    let n = counted (s) in
+    let q = nine-words (s .before .before .before .before .before .before .before .before .args .w) (s .before .before .before .before .before .before .before .before .args .h) in
     let m = length-take-le
-    (9 * c .before .before .before .before .before .before .before .before .before .before .before .before .before .before .before .before .words-of .result)
+    (9 * s .before .before .words-of .result)
     (c .before .before .before .before .before .before .before .before .before .before .enlarge .last .1 .1 .1 .0)
     (omega (arith, k .middle-fits, c .before .before .before .before .before .before .before .before .before .before .enlarge .kept .1 .1 .1 .0)) in
     record {
@@ -148,11 +149,12 @@ same-length-4 c = search needs
 
 returns-2 : tie.Need-returns-2
 returns-2 c =
-    let a = c .before .before .before .before .before .before .before .before .before .before .before .before .before .before .before .before .before .before .before .before .before .before .before .before .before .before .before .before .before .args in
-    let z = c .before .before .before .before .before .before .before .before .before .before .before .before .before .before .before .before .before .before .before .before .before .if1 .left in
-    let k = fits (c .before .before .before .before .before .before .before .before .before .before .before .before .before .before .before .before .before .before .before .before .before) in
-    let n = c .before .before .before .before .before .before .before .before .before .before .before .before .before .before .before .before .before .before .before .before .before .before .before .words-of .result in
-    let e = c .before .before .before .before .before .before .before .before .before .before .before .before .before .before .before .before .before .enlarge .ensures in
+    let k₀ = c .before .before .before .before .before .before .before .before .before .before .before .before .before .before .before .before .before in
+    let a = k₀ .before .before .before .before .before .before .before .before .before .before .before .before .args in
+    let z = k₀ .before .before .before .before .if1 .left in
+    let k = fits (k₀ .before .before .before .before) in
+    let n = k₀ .before .before .before .before .before .before .words-of .result in
+    let e = k₀ .enlarge .ensures in
     let d = c .before .before .before .before .before .before .enlarge2 .ensures in
     let f = words (a .w) (a .picture .now) in
     let m = scaleOf (a .w) (a .h) f in
@@ -160,28 +162,28 @@ returns-2 c =
     let u = 3 * a .w in
     let v = 3 * a .h in
     let nine : length m ≡ 9 * n = scale-length (a .w) (a .h) f ∙ ap (λ (i : ℕ). 9 * i)
-    (sym (counted (c .before .before .before .before .before .before .before .before .before .before .before .before .before .before .before .before .before .before .before .before .before))) in
+    (sym (counted (k₀ .before .before .before .before))) in
     let same : take (9 * n)
-    (c .before .before .before .before .before .before .before .before .before .before .before .before .before .before .before .before .before .enlarge .last .1 .1 .1 .0) ≡ m = ap (take (9 * n)) (e .output-is) ∙ take-front m (a .middle .now) (9 * n) nine in
+    (k₀ .enlarge .last .1 .1 .1 .0) ≡ m = ap (take (9 * n)) (e .output-is) ∙ take-front m (a .middle .now) (9 * n) nine in
     let q = nine-words (a .w) (a .h) in
     let s = singles-length (a .w) (a .h) f in
     let s′ = singles-length u v g in
     let t = bytes-length (a .w) (a .h) f in
     let t′ = bytes-length u v g in
     record {
-      refusal-now = number (c .before .before .before .before .before .before .before .before .before .before .before .before .before .before .before .before .before .before .before .before .before .before);
+      refusal-now = number (k₀ .before .before .before .before .before);
       middle-now = written _ _ _ _ z (e .output-is);
       output-now = written _ _ _ _ z (d .output-is ∙ ap (λ (l : List ℕ). put 0 (scaleOf u v (words u l)) (a .output .now)) same);
       singles-now =
           written _ _ _ _ z
           (d .singles-are ∙ ap (λ (l : List ℕ). put 0 (singlesOf u v (words u l))
-          (c .before .before .before .before .before .before .before .before .before .before .before .before .before .before .before .before .before .enlarge .last .1 .1 .1 .1 .0)) same
+          (k₀ .enlarge .last .1 .1 .1 .1 .0)) same
           ∙ ap (put 0 (singlesOf u v g)) (e .singles-are)
           ∙ put-over (singlesOf (a .w) (a .h) f) (singlesOf u v g) (a .singles .now) (omega arith) (omega (arith, k .singles-fit)));
       bytes-now =
           written _ _ _ _ z
           (d .bytes-are ∙ ap (λ (l : List ℕ). put 0 (bytesOf u v (words u l))
-          (c .before .before .before .before .before .before .before .before .before .before .before .before .before .before .before .before .before .enlarge .last .1 .1 .1 .1 .1 .0)) same
+          (k₀ .enlarge .last .1 .1 .1 .1 .1 .0)) same
           ∙ ap (put 0 (bytesOf u v g)) (e .bytes-are)
           ∙ put-over (bytesOf (a .w) (a .h) f) (bytesOf u v g) (a .bytes .now) (omega arith) (omega (arith, k .bytes-fit)));
     }
