@@ -1,7 +1,7 @@
 // The calls of a session. The header is an array of two numbers, w and h.
 use session::Session;
-ghost use Rattle.session.specs.Calls.{Opens, Paints, Refreshes, Shows};
-ghost use Rattle.session.specs.Three.{screen3};
+ghost use Rattle.machine.specs.Calls.{Opens, Paints, Refreshes, Shows};
+ghost use Rattle.three.specs.Three.{screen3};
 ghost use Rattle.panel.specs.Header.{width, height};
 
 #[no_mangle]

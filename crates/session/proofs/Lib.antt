@@ -1,14 +1,2 @@
-pub mod Lists
-pub mod Places
-pub mod Good
-pub mod Held
-pub mod Demand3
-pub mod Three
 pub mod Theorem
-pub mod Words
-pub mod Loops
-pub mod Box
-pub mod Order
-pub mod Swept
-pub mod Ends
 pub mod Scaled

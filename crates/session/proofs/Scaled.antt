@@ -1,33 +1,64 @@
--- Demand 3 in terms of `scale`: a block that is not stale shows what `scale`'s output has there for the present picture. Assumes nothing.
-use mathlib.Core.Path.{_≡_, sym, _∙_}
-use mathlib.Core.Bool.{true, false}
-use mathlib.Core.List.{List, [], _∷_}
-use Prim.Native.Nat.{ℕ, _+_, _*_, _<_}
+-- Demand 3 in terms of `scale`: a picture enlarged whole is the list that `scale` writes, so a block that is not stale shows what `scale`'s output has there,
+-- and a list of calls that ends with nothing stale holds that whole list, whatever the buffers' lengths. Assumes nothing.
+use mathlib.Core.Path.{_≡_, sym, ap, _∙_}
+use mathlib.Core.Bool.{Bool, true, false, cond}
+use mathlib.Core.List.{List}
+use Prim.Native.Nat.{ℕ, _+_, _*_, _/_, _%_, _<_}
+use native.Mathlib.Nat.{div-lt-iff-lt-mul}
 use native.Mathlib.Omega.{arith}
-use lib.ListN.{getD, take}
+use lib.ListN.{length, getD, take, replicate, length-replicate}
+use lib.Seq.{ext-getD}
 use Rattle.picture.specs.Picture.{words}
-use Rattle.block.specs.Block.{blockFrom, blockOf}
+use Rattle.block.specs.Block.{blockOf}
 use Rattle.whole.specs.Whole.{scaleOf}
-use Rattle.whole.specs.Laws.{scale-block}
-use Rattle.session.specs.Machine.{Call, Answer, blockAt, after}
-use Rattle.session.specs.Demand3.{Buffers, Trace, started}
-use Rattle.session.specs.Three.{screen3}
+use Rattle.whole.specs.Laws.{scale-block, scale-length}
+use Rattle.machine.specs.Lists.{table, has}
+use Rattle.machine.specs.Machine.{Call, Answer, putAll, blockAt, after}
+use Rattle.machine.specs.Demand3.{Buffers, Trace, whole, started, left}
+use Rattle.machine.proofs.Places.{column-lt, row-lt, spot-onto}
+use Rattle.machine.proofs.Good.{spotOf, length-putAll}
+use Rattle.machine.proofs.Order.{table-has, has-table, below-of, getD-putAll}
+use Rattle.machine.proofs.Demand3.{ended-whole}
+use Rattle.three.specs.Three.{draw3, screen3}
+use Rattle.three.proofs.Three.{lawful3}
 use Rattle.session.proofs.Theorem.{demand3}
 
--- block (bx, by) of `scale`'s output, read at its nine places, is the block
-pub scaled-block : (w h : ℕ) (f : ℕ → ℕ → ℕ) (bx by : ℕ) → bx < w → by < h → blockAt screen3 w h bx by (scaleOf w h f) ≡ blockOf w h f bx by
-unfolding blockOf blockFrom
-scaled-block w h f bx by hx hy =
-    let at : (r c : ℕ) → r < 3 → c < 3 → getD (scaleOf w h f) ((3 * by + r) * (3 * w) + (3 * bx + c)) 0 ≡ getD (blockOf w h f bx by) (3 * r + c) 0 =
-    λ r c hr hc. scale-block w h f bx by r c hx hy hr hc in
-    λ i.
-    at 0 0 (omega arith) (omega arith) i ∷ at 0 1 (omega arith) (omega arith) i ∷ at 0 2 (omega arith) (omega arith) i
-    ∷ at 1 0 (omega arith) (omega arith) i ∷ at 1 1 (omega arith) (omega arith) i ∷ at 1 2 (omega arith) (omega arith) i
-    ∷ at 2 0 (omega arith) (omega arith) i ∷ at 2 1 (omega arith) (omega arith) i ∷ at 2 2 (omega arith) (omega arith) i
-    ∷ []
+-- every block drawn, and `scale`'s output
+pub whole-scaled : (w h : ℕ) (p : List ℕ) → whole screen3 w h p ≡ scaleOf w h (words w p)
+whole-scaled w h p = ext-getD 0 (whole screen3 w h p) (scaleOf w h f) (long ∙ sym (scale-length w h f)) (λ i l. at i (omega (arith, long)))
+  where
+    f : ℕ → ℕ → ℕ
+    f = words w p
 
-pub shows-scaled : {w h stale : ℕ} {b e : Buffers} {cs : List Call} {rs : List Answer} → Trace screen3 w h b stale cs rs e
-    → (bx by : ℕ) → bx < w → by < h → getD (after screen3 w h cs (started screen3 w h b) .stale) (by * w + bx) true ≡ false
-    → blockAt screen3 w h bx by (e .output) ≡ blockAt screen3 w h bx by (scaleOf w h (words w (take (w * h) (e .picture))))
-shows-scaled {w} {h} {stale} {b} {e} {cs} {rs} t bx by hx hy fresh =
-    demand3 .each t .blocks bx by hx hy fresh .1 ∙ sym (scaled-block w h (words w (take (w * h) (e .picture))) bx by hx hy)
+    all : List ℕ
+    all = table (w * h) (λ b. b)
+
+    blank : List ℕ
+    blank = replicate (9 * (w * h)) 0
+
+    long : length (whole screen3 w h p) ≡ 9 * (w * h)
+    long = length-putAll screen3 w h p all blank ∙ length-replicate {A = ℕ} (9 * (w * h)) 0
+
+    -- word k of block b
+    word : (b k : ℕ) → b < w * h → k < 9 → getD (whole screen3 w h p) (spotOf screen3 w h b k) 0 ≡ getD (scaleOf w h f) (spotOf screen3 w h b k) 0
+    word b k l m =
+        let e : 3 * (k / 3) + k % 3 ≡ k = omega arith in
+        getD-putAll screen3 lawful3 w h p all blank b k (below-of (w * h) all (λ i q. let j = has-table (w * h) (λ b. b) i q in omega (arith, j .1, j .2)))
+        (omega (arith, length-replicate {A = ℕ} (9 * (w * h)) 0)) l m
+        ∙ ap (λ (t : Bool). cond t (getD (draw3 w h p (b % w) (b / w)) k 0) (getD blank (spotOf screen3 w h b k) 0)) (table-has (w * h) (λ b. b) b l)
+        ∙ ap (λ (n : ℕ). getD (blockOf w h f (b % w) (b / w)) n 0) (sym e)
+        ∙ sym (scale-block w h f (b % w) (b / w) (k / 3) (k % 3) (column-lt w h b l) (row-lt w h b l) (omega arith) (omega arith))
+
+    at : (i : ℕ) → i < 9 * (w * h) → getD (whole screen3 w h p) i 0 ≡ getD (scaleOf w h f) i 0
+    at i l =
+        let o = spot-onto 3 w (omega arith) h i l in
+        ap (λ (n : ℕ). getD (whole screen3 w h p) n 0) (sym (o .4)) ∙ word (o .0) (o .1) (o .2) (o .3) ∙ ap (λ (n : ℕ). getD (scaleOf w h f) n 0) (o .4)
+
+module _ {w h stale : ℕ} {b e : Buffers} {cs : List Call} {rs : List Answer} (t : Trace screen3 w h b stale cs rs e) where
+  pub shows-scaled : (bx by : ℕ) → bx < w → by < h → getD (after screen3 w h cs (started screen3 w h b) .stale) (by * w + bx) true ≡ false
+      → blockAt screen3 w h bx by (e .output) ≡ blockAt screen3 w h bx by (scaleOf w h (words w (take (w * h) (e .picture))))
+  shows-scaled bx by hx hy fresh =
+      demand3 .each t .blocks bx by hx hy fresh .0 ∙ ap (blockAt screen3 w h bx by) (whole-scaled w h (take (w * h) (e .picture)))
+
+  pub ends-scaled : left screen3 w h e ≡ 0 → take (9 * (w * h)) (e .output) ≡ scaleOf w h (words w (take (w * h) (e .picture)))
+  ends-scaled z = ended-whole screen3 lawful3 t z ∙ whole-scaled w h (take (w * h) (e .picture))

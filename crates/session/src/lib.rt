@@ -1,24 +1,20 @@
 // A session: a picture that is painted word by word, and its enlarged output, in which a refresh redraws the blocks that
-// a paint made stale. `specs/Calls.antt` says what each call leaves and answers, `specs/Machine.antt` is the plain machine,
-// `specs/Demand3.antt` says what holds of every list of calls, and `proofs/Theorem.antt` proves it.
+// a paint made stale. `machine/specs/Calls.antt` says what each call leaves and answers, `Machine.antt` beside it is the plain machine,
+// `Demand3.antt` says what holds of every list of calls, and `proofs/Theorem.antt` here proves it of this session.
 use draw::draw_first;
 use marks::count_stale;
-use marks::mark_box;
 use marks::mark_run;
-use output::fill_words;
-use output::read_block;
-use refuse::refuse_all;
-use refuse::refuse_paint;
-use refuse::refuse_show;
-ghost use Rattle.session.specs.Calls.{Opens, Paints, Refreshes, Shows};
-ghost use Rattle.session.specs.Three.{screen3};
-
-mod draw;
-mod marks;
-mod output;
-mod refuse;
-mod sweep;
-mod tile;
+use refusals::refuse_all;
+use refusals::refuse_paint;
+use refusals::refuse_show;
+use three::mark_paint;
+use three::read_block;
+ghost use mathlib.Core.Path.{_≡_};
+ghost use mathlib.Core.List.{_++_};
+ghost use Prim.Native.Nat.{_≤_};
+ghost use lib.ListN.{length, drop, replicate};
+ghost use Rattle.machine.specs.Calls.{Opens, Paints, Refreshes, Shows};
+ghost use Rattle.three.specs.Three.{screen3};
 
 // The header: the picture's width and height.
 pub struct Session {
@@ -50,6 +46,21 @@ pub struct Shown {
     pub words: [u32; 9],
 }
 
+// How many words a block has.
+const WORDS: usize = 9;
+
+// The first n words made 0.
+pub fn fill_words(output: &mut [u32], n: usize)
+    requires { ⌜ n ≤ length (now output) ⌝ }
+    ensures { λ r. ⌜ now (output .exit) ≡ replicate n 0 ++ drop n (now (output .entry)) ⌝ }
+{
+    let mut i: usize = 0;
+    while i < n {
+        output[i] = 0;
+        i += 1;
+    }
+}
+
 impl Session {
     // The limit of w and of h.
     pub const SIDE: u32 = 2048;
@@ -65,7 +76,7 @@ impl Session {
               stale = r .stale;
             }) ⌝ }
     {
-        let refusal = refuse_all(w, h, picture.len(), output.len(), marks.len());
+        let refusal = refuse_all(Session::SIDE, WORDS, w, h, picture.len(), output.len(), marks.len());
         if refusal != 0 {
             return Opened {
                 refusal,
@@ -74,7 +85,7 @@ impl Session {
             };
         }
         let n = (w as usize) * (h as usize);
-        fill_words(output, 9 * n);
+        fill_words(output, WORDS * n);
         mark_run(marks, 0, n);
         Opened {
             refusal: 0,
@@ -103,7 +114,7 @@ impl Session {
     {
         let w = self.w;
         let h = self.h;
-        let refusal = refuse_paint(w, h, picture.len(), marks.len(), column, row);
+        let refusal = refuse_paint(Session::SIDE, w, h, picture.len(), marks.len(), column, row);
         if refusal != 0 {
             return Painted {
                 refusal,
@@ -122,7 +133,7 @@ impl Session {
             };
         }
         picture[at] = word;
-        mark_box(marks, w, h, column, row);
+        mark_paint(marks, w, h, column, row);
         Painted {
             refusal: 0,
             changed: 1,
@@ -143,7 +154,7 @@ impl Session {
     {
         let w = self.w;
         let h = self.h;
-        let refusal = refuse_all(w, h, picture.len(), output.len(), marks.len());
+        let refusal = refuse_all(Session::SIDE, WORDS, w, h, picture.len(), output.len(), marks.len());
         if refusal != 0 {
             return Refreshed {
                 refusal,
@@ -151,11 +162,12 @@ impl Session {
                 left: 0,
             };
         }
-        let drawn = draw_first(picture, output, marks, w, h, n);
+        let stale = count_stale(marks, 0, (w as usize) * (h as usize));
+        let drawn = draw_first(picture, output, marks, w, h, stale, n);
         Refreshed {
             refusal: 0,
             drawn,
-            left: count_stale(marks, 0, (w as usize) * (h as usize)),
+            left: stale - drawn,
         }
     }
 
@@ -166,7 +178,7 @@ impl Session {
     {
         let w = self.w;
         let h = self.h;
-        let refusal = refuse_show(w, h, output.len(), marks, bx, by);
+        let refusal = refuse_show(Session::SIDE, WORDS, w, h, output.len(), marks, bx, by);
         if refusal != 0 {
             return Shown {
                 refusal,

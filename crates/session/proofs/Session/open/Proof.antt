@@ -4,11 +4,11 @@ use Prim.Native.Nat.{_*_}
 use native.Mathlib.Omega.{arith}
 use borrow.Author.Needs.{needs}
 use lib.ListN.{length}
-use Rattle.session.specs.Steps.{Lent}
-use Rattle.session.specs.Three.{screen3}
-use Rattle.session.proofs.Box.{run-start}
-use Rattle.session.proofs.Ends.{lent, open-refused, open-done}
-use Rattle.session.proofs.Words.{area}
+use Rattle.machine.specs.Lent.{Lent}
+use Rattle.three.specs.Three.{screen3}
+use Rattle.marks.proofs.Box.{run-start}
+use Rattle.machine.proofs.Ends.{lent, open-refused, open-done}
+use Rattle.machine.proofs.Places.{area}
 use Rattle.session.proofs.Session.open.Statement.{statement}
 use Rattle.session.proofs.Session.open.Tie as tie
 
@@ -22,12 +22,12 @@ returns c =
     (c .if1 .taken)
 
 abbrev LentAt : tie.Start → Type 0
-LentAt s = let a = s .args in Lent (a .w) (a .h) (length (a .picture .now)) (length (a .output .now)) (length (a .marks .now))
+LentAt s = let a = s .args in Lent screen3 (a .w) (a .h) (length (a .picture .now)) (length (a .output .now)) (length (a .marks .now))
 
 lent-of : (c : tie.Else1) → LentAt (c .before .before .before .before .before)
 lent-of c =
     let a = c .before .before .before .before .before .args in
-    lent (a .w) (a .h) (length (a .picture .now)) (length (a .output .now)) (length (a .marks .now)) (sym (c .before .refuse-all .ensures) ∙ c .if1 .left)
+    lent screen3 (a .w) (a .h) (length (a .picture .now)) (length (a .output .now)) (length (a .marks .now)) (sym (c .before .refuse-all .ensures) ∙ c .if1 .left)
 
 mul-n : tie.Need-mul-n
 mul-n c = omega (arith, area (c .before .before .before .before .before .args .w) (c .before .before .before .before .before .args .h) (lent-of c .wide) (lent-of c .high))

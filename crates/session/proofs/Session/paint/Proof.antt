@@ -4,10 +4,12 @@ use Prim.Native.Nat.{_+_, _*_}
 use native.Mathlib.Omega.{arith}
 use borrow.Author.Needs.{needs}
 use lib.ListN.{length, set}
-use Rattle.session.specs.Machine.{names}
-use Rattle.session.specs.Three.{screen3}
-use Rattle.session.proofs.Lists.{length-stamp}
-use Rattle.session.proofs.Ends.{LentPaint, lent-paint, paint-refused, paint-same, paint-done}
+use Rattle.machine.specs.Machine.{names}
+use Rattle.machine.specs.Lent.{LentPaint}
+use Rattle.machine.proofs.Places.{area}
+use Rattle.three.specs.Three.{screen3}
+use Rattle.machine.proofs.Lists.{length-stamp}
+use Rattle.machine.proofs.Ends.{lent-paint, paint-refused, paint-same, paint-done}
 use Rattle.session.proofs.Session.paint.Statement.{statement}
 use Rattle.session.proofs.Session.paint.Tie as tie
 
@@ -21,12 +23,12 @@ returns c =
     (c .before .refuse-paint .ensures) (c .if1 .taken)
 
 abbrev LentAt : tie.Start → Type 0
-LentAt s = let a = s .args in LentPaint (a .self .w) (a .self .h) (length (a .picture .now)) (length (a .marks .now)) (a .column) (a .row)
+LentAt s = let a = s .args in LentPaint screen3 (a .self .w) (a .self .h) (length (a .picture .now)) (length (a .marks .now)) (a .column) (a .row)
 
 lent-of : (c : tie.Else1) → LentAt (c .before .before .before .before)
 lent-of c =
     let a = c .before .before .before .before .args in
-    lent-paint (a .self .w) (a .self .h) (length (a .picture .now)) (length (a .marks .now)) (a .column) (a .row)
+    lent-paint screen3 (a .self .w) (a .self .h) (length (a .picture .now)) (length (a .marks .now)) (a .column) (a .row)
     (sym (c .before .refuse-paint .ensures) ∙ c .if1 .left)
 
 cast-n : tie.Need-cast-n
@@ -54,7 +56,10 @@ slice-read-old : tie.Need-slice-read-old
 slice-read-old c = omega (arith, lent-of (c .before))
 
 count-stale-requires : tie.Need-count-stale-requires
-count-stale-requires c κs = let l = lent-of (c .before .before .before) in (omega arith, (l .small, l .for-marks))
+count-stale-requires c κs =
+    let a = c .before .before .before .before .before .before .before .args in
+    let l = lent-of (c .before .before .before) in
+    (omega arith, (area (a .self .w) (a .self .h) (l .wide) (l .high), l .for-marks))
 
 same-length : tie.Need-same-length
 same-length c = search needs
@@ -73,15 +78,15 @@ mul-picture c = omega (arith, lent-of (c .before .before))
 slice-write-picture : tie.Need-slice-write-picture
 slice-write-picture c = omega (arith, lent-of (c .before .before))
 
-mark-box-requires : tie.Need-mark-box-requires
-mark-box-requires c κs = let l = lent-of (c .before .before .before) in (l .wide, (l .high, (l .across, (l .down, l .for-marks))))
+mark-paint-requires : tie.Need-mark-paint-requires
+mark-paint-requires c κs = let l = lent-of (c .before .before .before) in (l .wide, (l .high, (l .across, (l .down, l .for-marks))))
 
 count-stale-requires-2 : tie.Need-count-stale-requires-2
 count-stale-requires-2 c κs =
     let a = c .before .before .before .before .before .before .before .before .before .before .before .args in
     let l = lent-of (c .before .before .before .before .before .before .before) in
-    let e = ap length (c .before .before .before .mark-box .ensures) ∙ length-stamp 0 (names screen3 (a .self .w) (a .self .h) (a .column) (a .row)) 1 (a .marks .now) in
-    (omega arith, (l .small, omega (arith, l .for-marks, e)))
+    let e = ap length (c .before .before .before .mark-paint .ensures) ∙ length-stamp 0 (names screen3 (a .self .w) (a .self .h) (a .column) (a .row)) 1 (a .marks .now) in
+    (omega arith, (area (a .self .w) (a .self .h) (l .wide) (l .high), omega (arith, l .for-marks, e)))
 
 same-length-2 : tie.Need-same-length-2
 same-length-2 c = search needs
@@ -91,7 +96,7 @@ same-length-3 c = search needs
 
 returns-3 : tie.Need-returns-3
 returns-3 c =
-    let marked = c .before .before .before .before .mark-box in
+    let marked = c .before .before .before .before .mark-paint in
     let other = c .before .before .before .before .before .before in
     let k = other .before .before in
     let r = k .before .refuse-paint in
@@ -119,7 +124,7 @@ paint-spec =
     returns-2
     mul-picture
     slice-write-picture
-    mark-box-requires
+    mark-paint-requires
     count-stale-requires-2
     same-length-2
     same-length-3

@@ -2,8 +2,8 @@
 use mathlib.Core.Path.{refl, sym, _∙_}
 use borrow.Author.Needs.{needs}
 use lib.ListN.{length, replicate}
-use Rattle.session.specs.Three.{screen3}
-use Rattle.session.proofs.Ends.{lent-show, show-refused, show-done}
+use Rattle.three.specs.Three.{screen3}
+use Rattle.machine.proofs.Ends.{lent-show, show-refused, show-done}
 use Rattle.session.proofs.Session.show.Statement.{statement}
 use Rattle.session.proofs.Session.show.Tie as tie
 
@@ -19,7 +19,7 @@ returns c =
 read-block-requires : tie.Need-read-block-requires
 read-block-requires c κs =
     let a = c .before .before .before .before .args in
-    let l = lent-show (a .self .w) (a .self .h) (length (a .output .now)) (a .marks .now) (a .bx) (a .by) (sym (c .before .refuse-show .ensures) ∙ c .if1 .left) in
+    let l = lent-show screen3 (a .self .w) (a .self .h) (length (a .output .now)) (a .marks .now) (a .bx) (a .by) (sym (c .before .refuse-show .ensures) ∙ c .if1 .left) in
     (l .across, (l .down, (l .wide, (l .high, l .for-output))))
 
 returns-2 : tie.Need-returns-2

@@ -1,0 +1,259 @@
+-- Demand 3 holds of every lawful screen. Assumes nothing.
+use mathlib.Core.Path.{_≡_, refl, sym, ap, ap₂, _∙_, subst, subst₂}
+use mathlib.Core.Bool.{Bool, true, false, cond, true≢false}
+use mathlib.Core.List.{List, [], _∷_, _++_, map}
+use Prim.Native.Nat.{ℕ, suc, _+_, _-_, _*_, _≤_, _<_, min}
+use native.Mathlib.Nat.{zero-add}
+use native.Mathlib.Omega.{arith}
+use lib.Dec.{ltb, eqb}
+use lib.Arith.{digits-div, digits-mod}
+use lib.ListN.{length, getD, take, drop, replicate, take-append-drop}
+use lib.Seq.{take-at, drop-at, length-take-le, ext-getD}
+use borrow.Author.Tests.{eqb-true, eq-eqb, ltb-false}
+use Rattle.machine.specs.Lists.{count}
+use Rattle.machine.specs.Screen.{Screen, Lawful, blockWords, place}
+use Rattle.machine.specs.Machine.{State, Call, Paint, Refresh, Show, Answer, Painted, inside, putAll, blockAt}
+use Rattle.machine.specs.Machine.{opened, store, redraw, step, after, answers}
+use Rattle.machine.specs.Calls.{sideLong, refusalAll, OpenEnd, openEnd, Paints, Refreshes, Shows}
+use Rattle.machine.specs.Demand3.{Buffers, Ran, none, paint, refresh, show, Trace, Further, byteOf, whole, started, left, Holds, Follows, Demand3}
+use Rattle.machine.proofs.Places.{block-lt}
+use Rattle.machine.proofs.Lists.{length-bytes, bytes-replicate, count-replicate, first-replicate, count-cleared, length-table, getD-table, none-true}
+use Rattle.machine.proofs.Good.{Good, good-opened, good-store, good-redraw, good-same}
+use Rattle.machine.proofs.Held.{held, none-held, inside-of, stale-held, block-append, paint-held, refresh-held, show-held}
+
+-- ---- the machine alone
+
+module _ (S : Screen) (L : Lawful S) (w h : ℕ) where
+  good-step : (c : Call) (s : State) → Good S w h s → Good S w h (step S w h c s .0)
+  good-step (Paint column row word) s g = by-inside (inside w h column row) refl (eqb word (getD (s .picture) (row * w + column) 0))
+    where
+      t : State
+      t = store S w h column row word s
+
+      by-inside : (b : Bool) → inside w h column row ≡ b → (u : Bool)
+          → Good S w h (cond {A = State × Answer} b (cond u (s, Painted 0 0 (count (s .stale))) (t, Painted 0 1 (count (t .stale)))) (s, Painted 5 0 0) .0)
+      by-inside false e u = g
+      by-inside true e true = g
+      by-inside true e false = let i = inside-of w h column row e in good-store S L w h column row word s (i .0) (i .1) g
+  good-step (Refresh n) s g = good-redraw S L w h (min n (count (s .stale))) s g
+  good-step (Show bx by) s g = g
+
+  pub good-after : (cs : List Call) (s : State) → Good S w h s → Good S w h (after S w h cs s)
+  good-after [] s g = g
+  good-after (c ∷ cs) s g = good-after cs (step S w h c s .0) (good-step c s g)
+
+  further-count : (n : ℕ) {k : ℕ} {more : List Call} (s : State) → Further n k more → count (after S w h more s .stale) ≡ count (s .stale) - k * n
+  further-count n s none = omega arith
+  further-count n {k = suc k} s (refresh f) =
+      let m = min n (count (s .stale)) in
+      further-count n (redraw S w h m s) f ∙ omega (arith, count-cleared m (s .stale))
+  further-count n s (show f) = further-count n s f
+
+  -- a block that is not stale
+  block-drawn : (s : State) → Good S w h s → (bx by : ℕ) → bx < w → by < h → getD (s .stale) (by * w + bx) true ≡ false
+      → blockAt S w h bx by (s .output) ≡ S .draw w h (s .picture) bx by
+  block-drawn s g bx by x y e = ext-getD 0 (blockAt S w h bx by (s .output)) (S .draw w h (s .picture) bx by) (long ∙ sym (L .draw-length w h (s .picture) bx by)) at
+    where
+      long : length (blockAt S w h bx by (s .output)) ≡ blockWords S
+      long = length-table (blockWords S) (λ k. getD (s .output) (place S w bx by k) 0)
+
+      b : ℕ
+      b = by * w + bx
+
+      at : (k : ℕ) → k < length (blockAt S w h bx by (s .output)) → getD (blockAt S w h bx by (s .output)) k 0 ≡ getD (S .draw w h (s .picture) bx by) k 0
+      at k l =
+          let m : k < blockWords S = omega (arith, long) in
+          getD-table (blockWords S) (λ k. getD (s .output) (place S w bx by k) 0) k 0 m
+          ∙ subst₂ (λ (c r : ℕ). getD (s .output) (place S w c r k) 0 ≡ getD (S .draw w h (s .picture) c r) k 0) (digits-mod by x) (digits-div by x)
+          (g .shown b k (block-lt x y) e m)
+
+  -- the whole picture is that of a session which is opened on it and drawn once
+  full : List ℕ → State
+  full picture = redraw S w h (w * h) (opened S w h picture)
+
+  full-good : (picture : List ℕ) → length picture ≡ w * h → Good S w h (full picture)
+  unfolding full
+  full-good picture l = good-redraw S L w h (w * h) (opened S w h picture) (good-opened S L w h picture l)
+
+  full-count : (picture : List ℕ) → count (full picture .stale) ≡ 0
+  unfolding full
+  full-count picture = count-cleared (w * h) (replicate (w * h) true) ∙ omega (arith, count-replicate (w * h))
+
+  full-output : (picture : List ℕ) → full picture .output ≡ whole S w h picture
+  unfolding full
+  full-output picture =
+      ap (λ (bs : List ℕ). putAll S w h picture bs (replicate (blockWords S * (w * h)) 0)) (first-replicate 0 (w * h) (λ b. b) (λ k. sym (zero-add k)))
+
+  full-picture : (picture : List ℕ) → full picture .picture ≡ picture
+  unfolding full
+  full-picture picture = refl
+
+  whole-drawn : (picture : List ℕ) → length picture ≡ w * h → (bx by : ℕ) → bx < w → by < h
+      → blockAt S w h bx by (whole S w h picture) ≡ S .draw w h picture bx by
+  whole-drawn picture l bx by x y =
+      ap (blockAt S w h bx by) (sym (full-output picture))
+      ∙ block-drawn (full picture) (full-good picture l) bx by x y
+      (none-true (full picture .stale) (full-count picture) (by * w + bx) (omega (arith, full-good picture l .stale-length, block-lt x y)))
+      ∙ ap (λ (p : List ℕ). S .draw w h p bx by) (full-picture picture)
+
+-- ---- a list of calls, from buffers that hold a state
+
+module _ (S : Screen) (L : Lawful S) (w h : ℕ) (sides : sideLong (S .side) w h ≡ false) (tp to tm : List ℕ) where
+  ran-held : {b e : Buffers} {cs : List Call} {rs : List Answer} → Ran S w h b cs rs e → (s : State) → Good S w h s → b ≡ held tp to tm s
+      → (e ≡ held tp to tm (after S w h cs s)) × (rs ≡ answers S w h cs s)
+  ran-held none s g q = (q, refl)
+  ran-held (paint {b = b} {column = column} {row = row} {word = word} {d = d} p r) s g q =
+      let t = paint-held S L w h sides tp to tm s g column row word d
+      (subst (λ (b : Buffers). Paints S w h (b .picture) (b .marks) column row word d) q p) in
+      let i = ran-held r (step S w h (Paint column row word) s .0) (good-step S L w h (Paint column row word) s g)
+      (ap (λ (b : Buffers). record { picture = d .picture; output = b .output; marks = d .marks }) q ∙ ap (λ (t : Buffers × Answer). t .0) t) in
+      (i .0, ap₂ {C = List Answer} _∷_ (ap (λ (t : Buffers × Answer). t .1) t) (i .1))
+  ran-held (refresh {b = b} {n = n} {d = d} p r) s g q =
+      let t = refresh-held S L w h sides tp to tm s g n d
+      (subst (λ (b : Buffers). Refreshes S w h (b .picture) (b .output) (b .marks) n d) q p) in
+      let i = ran-held r (step S w h (Refresh n) s .0) (good-step S L w h (Refresh n) s g)
+      (ap (λ (b : Buffers). record { picture = b .picture; output = d .output; marks = d .marks }) q ∙ ap (λ (t : Buffers × Answer). t .0) t) in
+      (i .0, ap₂ {C = List Answer} _∷_ (ap (λ (t : Buffers × Answer). t .1) t) (i .1))
+  ran-held (show {bx = bx} {by = by} {d = d} p r) s g q =
+      let t = show-held S L w h sides tp to tm s g bx by d (subst (λ (b : Buffers). Shows S w h (b .output) (b .marks) bx by d) q p) in
+      let i = ran-held r s g q in
+      (i .0, ap₂ {C = List Answer} _∷_ t (i .1))
+
+-- ---- from the opening on
+
+-- an opening that is not refused
+accepted : (r : ℕ) (d x y : OpenEnd) → y .refusal ≡ r → d ≡ cond (eqb r 0) x y → d .refusal ≡ 0 → (r ≡ 0) × (d ≡ x)
+accepted r d x y n q z = by-test (eqb r 0) refl q
+  where
+    by-test : (t : Bool) → eqb r 0 ≡ t → d ≡ cond t x y → (r ≡ 0) × (d ≡ x)
+    by-test true e f = (eqb-true r 0 e, f)
+    by-test false e f =
+        absurd (true≢false (sym (eq-eqb r 0 (sym n ∙ ap (λ (d : OpenEnd). d .refusal) (sym f) ∙ z)) ∙ e))
+
+module _ (S : Screen) (L : Lawful S) (w h : ℕ) (b : Buffers) where
+  -- the buffers that hold a state, with what b has behind
+  abbrev keep : State → Buffers
+  keep s = held (drop (w * h) (b .picture)) (drop (blockWords S * (w * h)) (b .output)) (drop (w * h) (b .marks)) s
+
+  module _ {stale : ℕ} {cs : List Call} {rs : List Answer} {e : Buffers} (t : Trace S w h b stale cs rs e) where
+    done : OpenEnd
+    done = record {
+      output = replicate (blockWords S * (w * h)) 0 ++ drop (blockWords S * (w * h)) (b .output);
+      marks = replicate (w * h) 1 ++ drop (w * h) (b .marks);
+      refusal = 0;
+      width = w;
+      height = h;
+      stale = w * h;
+    }
+
+    refused : ℕ
+    refused = refusalAll (S .side) (blockWords S) w h (length (b .picture)) (length (b .output)) (length (b .marks))
+
+    opening : (refused ≡ 0)
+        × (_≡_ {A = OpenEnd} (record { output = t .output; marks = t .marks; refusal = 0; width = t .width; height = t .height; stale = stale }) done)
+    unfolding done refused openEnd
+    opening =
+        accepted refused (record { output = t .output; marks = t .marks; refusal = 0; width = t .width; height = t .height; stale = stale }) done
+        (record { output = b .output; marks = b .marks; refusal = refused; width = 0; height = 0; stale = 0 }) refl (t .opens .is) refl
+
+    sizes : (sideLong (S .side) w h ≡ false) × (w * h ≤ length (b .picture))
+    unfolding refused
+    sizes =
+        let n = none-held (sideLong (S .side) w h) (ltb (length (b .picture)) (w * h)) (ltb (length (b .output)) (blockWords S * (w * h))) (ltb (length (b .marks)) (w * h)) (opening .0) in
+        (n .0, ltb-false (length (b .picture)) (w * h) (n .1))
+
+    start : _≡_ {A = Buffers} (record { picture = b .picture; output = t .output; marks = t .marks }) (keep (started S w h b))
+    unfolding done
+    start = λ i. record {
+      picture = sym (take-append-drop (w * h) (b .picture)) i;
+      output = opening .1 i .output;
+      marks = (ap (λ (d : OpenEnd). d .marks) (opening .1) ∙ ap (λ (l : List ℕ). l ++ drop (w * h) (b .marks)) (sym (bytes-replicate (w * h)))) i;
+    }
+
+    good-started : Good S w h (started S w h b)
+    good-started = good-opened S L w h (take (w * h) (b .picture)) (length-take-le (w * h) (b .picture) (sizes .1))
+
+    abbrev met : State
+    met = after S w h cs (started S w h b)
+
+    good-met : Good S w h met
+    good-met = good-after S L w h cs (started S w h b) good-started
+
+    more : {cs : List Call} {rs : List Answer} {b′ e′ : Buffers} → Ran S w h b′ cs rs e′ → (s : State) → Good S w h s → b′ ≡ keep s
+        → (e′ ≡ keep (after S w h cs s)) × (rs ≡ answers S w h cs s)
+    more r s g q = ran-held S L w h (sizes .0) (drop (w * h) (b .picture)) (drop (blockWords S * (w * h)) (b .output)) (drop (w * h) (b .marks)) r s g q
+
+    ended : (e ≡ keep met) × (rs ≡ answers S w h cs (started S w h b))
+    unfolding done
+    ended =
+        more
+        (subst₂ (λ (x y : ℕ). Ran S x y (record { picture = b .picture; output = t .output; marks = t .marks }) cs rs e)
+        (ap (λ (d : OpenEnd). d .width) (opening .1)) (ap (λ (d : OpenEnd). d .height) (opening .1)) (t .ran))
+        (started S w h b) good-started start
+
+    bytes-met : length (map byteOf (met .stale)) ≡ w * h
+    bytes-met = length-bytes (met .stale) ∙ good-met .stale-length
+
+    holds : Holds S w h met b e
+    holds = subst (Holds S w h met b) (sym (ended .0)) (record {
+      picture-same = take-at (met .picture) (drop (w * h) (b .picture)) (w * h) (good-met .picture-length);
+      output-same = take-at (met .output) (drop (blockWords S * (w * h)) (b .output)) (blockWords S * (w * h)) (good-met .output-length);
+      marks-same = take-at (map byteOf (met .stale)) (drop (w * h) (b .marks)) (w * h) bytes-met;
+      picture-rest = drop-at (met .picture) (drop (w * h) (b .picture)) (w * h) (good-met .picture-length);
+      output-rest = drop-at (met .output) (drop (blockWords S * (w * h)) (b .output)) (blockWords S * (w * h)) (good-met .output-length);
+      marks-rest = drop-at (map byteOf (met .stale)) (drop (w * h) (b .marks)) (w * h) bytes-met;
+    })
+
+    left-of : (s : State) → Good S w h s → (e : Buffers) → e ≡ keep s → left S w h e ≡ count (s .stale)
+    left-of s g e q = ap (left S w h) q ∙ ap count (stale-held S w h s g (drop (w * h) (b .marks)))
+
+    left-met : left S w h e ≡ count (met .stale)
+    left-met = left-of met good-met e (ended .0)
+
+    block-met : (bx by : ℕ) → bx < w → by < h → getD (met .stale) (by * w + bx) true ≡ false
+        → blockAt S w h bx by (e .output) ≡ S .draw w h (take (w * h) (e .picture)) bx by
+    block-met bx by x y f =
+        ap (λ (l : Buffers). blockAt S w h bx by (l .output)) (ended .0)
+        ∙ block-append S L w h (drop (blockWords S * (w * h)) (b .output)) met good-met bx by x y
+        ∙ block-drawn S L w h met good-met bx by x y f
+        ∙ ap (λ (p : List ℕ). S .draw w h p bx by) (sym (holds .picture-same))
+
+    picture-met : length (take (w * h) (e .picture)) ≡ w * h
+    picture-met = ap length (holds .picture-same) ∙ good-met .picture-length
+
+    follows : Follows S w h b stale cs rs e
+    unfolding done
+    follows = record {
+      same-count = ap (λ (d : OpenEnd). d .stale) (opening .1) ∙ sym (count-replicate (w * h));
+      same-answers = ended .1;
+      same-state = holds;
+      blocks = λ bx by x y f. (
+        block-met bx by x y f ∙ sym (whole-drawn S L w h (take (w * h) (e .picture)) picture-met bx by x y),
+        block-met bx by x y f,
+      );
+      counts-down = λ n k cs′ rs′ e′ f r.
+          left-of (after S w h cs′ met) (good-after S L w h cs′ met good-met) e′ (more r met good-met (ended .0) .0)
+          ∙ further-count S L w h n met f ∙ ap (λ (c : ℕ). c - k * n) (sym left-met);
+    }
+
+pub every : (S : Screen) → Lawful S → Demand3 S
+every S L = record {
+  each = λ {w} {h} {stale} {b} t. follows S L w h b t;
+  two = λ {w} {h} {stale} {stale′} {b} {b′} t t′ p z z′.
+      holds S L w h b t .output-same
+      ∙ good-same S L w h (met S L w h b t) (met S L w h b′ t′) (good-met S L w h b t) (good-met S L w h b′ t′)
+      (sym (holds S L w h b t .picture-same) ∙ p ∙ holds S L w h b′ t′ .picture-same)
+      (sym (left-met S L w h b t) ∙ z) (sym (left-met S L w h b′ t′) ∙ z′)
+      ∙ sym (holds S L w h b′ t′ .output-same);
+}
+
+-- a list that ends with nothing stale holds the present picture enlarged whole
+pub ended-whole : (S : Screen) → Lawful S → {w h stale : ℕ} {b e : Buffers} {cs : List Call} {rs : List Answer} → Trace S w h b stale cs rs e
+    → left S w h e ≡ 0 → take (blockWords S * (w * h)) (e .output) ≡ whole S w h (take (w * h) (e .picture))
+ended-whole S L {w} {h} {stale} {b} {e} t z =
+    let p : List ℕ = take (w * h) (e .picture) in
+    let l = picture-met S L w h b t in
+    holds S L w h b t .output-same
+    ∙ good-same S L w h (met S L w h b t) (full S L w h p) (good-met S L w h b t) (full-good S L w h p l)
+    (sym (holds S L w h b t .picture-same) ∙ sym (full-picture S L w h p)) (sym (left-met S L w h b t) ∙ z) (full-count S L w h p)
+    ∙ full-output S L w h p

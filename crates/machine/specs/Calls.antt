@@ -1,0 +1,144 @@
+-- What each call leaves in the buffers that it is lent and what it answers, for every header, every length and every contents. Definitions only.
+use mathlib.Core.Path.{_≡_}
+use mathlib.Core.Bool.{Bool, cond, _||_, not}
+use mathlib.Core.List.{List, _++_, map}
+use Prim.Native.Nat.{ℕ, _+_, _*_, min}
+use lib.Dec.{ltb, eqb}
+use lib.ListN.{length, getD, set, take, drop, replicate}
+use Rattle.picture.specs.Refusal as refusal
+use Rattle.machine.specs.Lists.{stamp, setAll, count, first}
+use Rattle.machine.specs.Screen.{Screen, blockWords}
+use Rattle.machine.specs.Machine.{inside, names, putAll, blockAt}
+
+-- a mark byte of 0 means not stale, any other stale
+abbrev pub isStale : ℕ → Bool
+isStale m = not (eqb m 0)
+
+-- which of the first n blocks are stale, by their marks
+abbrev pub staleOf : ℕ → List ℕ → List Bool
+staleOf n marks = map isStale (take n marks)
+
+-- ---- what each call leaves and answers
+
+pub record OpenEnd : Type 0 where
+  pub output : List ℕ
+  pub marks : List ℕ
+  pub refusal : ℕ
+  -- the header
+  pub width : ℕ
+  pub height : ℕ
+  pub stale : ℕ
+
+pub record PaintEnd : Type 0 where
+  pub picture : List ℕ
+  pub marks : List ℕ
+  pub refusal : ℕ
+  pub changed : ℕ
+  pub stale : ℕ
+
+pub record RefreshEnd : Type 0 where
+  pub output : List ℕ
+  pub marks : List ℕ
+  pub refusal : ℕ
+  pub drawn : ℕ
+  pub left : ℕ
+
+pub record ShowEnd : Type 0 where
+  pub refusal : ℕ
+  pub words : List ℕ
+
+-- ---- refusals, in the order of their checks: side is the screen's limit of a side, words how many words a block has; o, p and m are the lengths of the
+-- output, the picture and the marks
+
+abbrev pub sideLong : ℕ → ℕ → ℕ → Bool
+sideLong side w h = ltb side w || ltb side h
+
+module _ (side words w h : ℕ) where
+  -- of a call that is lent all three buffers: opening and refresh
+  abbrev pub refusalAll : ℕ → ℕ → ℕ → ℕ
+  refusalAll p o m =
+      cond (sideLong side w h) refusal.side
+      (cond (ltb p (w * h)) refusal.picture
+      (cond (ltb o (words * (w * h))) refusal.output
+      (cond (ltb m (w * h)) refusal.scratch refusal.none)))
+
+  -- of show, which looks at the block's mark too
+  abbrev pub refusalShow : ℕ → List ℕ → ℕ → ℕ → ℕ
+  refusalShow o marks bx by =
+      cond (sideLong side w h) refusal.side
+      (cond (ltb o (words * (w * h))) refusal.output
+      (cond (ltb (length marks) (w * h)) refusal.scratch
+      (cond (inside w h bx by) (cond (isStale (getD marks (by * w + bx) 0)) refusal.stale refusal.none) refusal.outside)))
+
+-- of paint, which is lent no output
+abbrev pub refusalPaint : ℕ → ℕ → ℕ → ℕ → ℕ → ℕ → ℕ → ℕ
+refusalPaint side w h p m column row =
+    cond (sideLong side w h) refusal.side
+    (cond (ltb p (w * h)) refusal.picture
+    (cond (ltb m (w * h)) refusal.scratch
+    (cond (inside w h column row) refusal.none refusal.outside)))
+
+module _ (S : Screen) (w h : ℕ) where
+  -- ---- opening: output words 0 and marks 1, as many as the picture asks for
+  unfoldable pub openEnd : List ℕ → List ℕ → List ℕ → OpenEnd
+  openEnd picture output marks =
+      let r = refusalAll (S .side) (blockWords S) w h (length picture) (length output) (length marks) in
+      cond (eqb r 0)
+      (record {
+        output = replicate (blockWords S * (w * h)) 0 ++ drop (blockWords S * (w * h)) output;
+        marks = replicate (w * h) 1 ++ drop (w * h) marks;
+        refusal = 0;
+        width = w;
+        height = h;
+        stale = w * h;
+      })
+      (record { output = output; marks = marks; refusal = r; width = 0; height = 0; stale = 0 })
+
+  -- ---- paint: an equal word alters nothing; another is stored, with 1 at the mark of each block that the paint names
+  unfoldable pub paintEnd : List ℕ → List ℕ → ℕ → ℕ → ℕ → PaintEnd
+  paintEnd picture marks column row word =
+      let r = refusalPaint (S .side) w h (length picture) (length marks) column row in
+      let at = row * w + column in
+      let marked = stamp (names S w h column row) 1 marks in
+      cond (eqb r 0)
+      (cond (eqb word (getD picture at 0))
+      (record { picture = picture; marks = marks; refusal = 0; changed = 0; stale = count (staleOf (w * h) marks) })
+      (record { picture = set picture at word; marks = marked; refusal = 0; changed = 1; stale = count (staleOf (w * h) marked) }))
+      (record { picture = picture; marks = marks; refusal = r; changed = 0; stale = 0 })
+
+  -- ---- refresh: the first stale blocks in row order, n of them or all, drawn from the picture, with 0 at their marks
+  unfoldable pub refreshEnd : List ℕ → List ℕ → List ℕ → ℕ → RefreshEnd
+  refreshEnd picture output marks n =
+      let r = refusalAll (S .side) (blockWords S) w h (length picture) (length output) (length marks) in
+      let k = min n (count (staleOf (w * h) marks)) in
+      let blocks = first k (staleOf (w * h) marks) in
+      let cleared = setAll blocks 0 marks in
+      cond (eqb r 0)
+      (record {
+        output = putAll S w h (take (w * h) picture) blocks output;
+        marks = cleared;
+        refusal = 0;
+        drawn = k;
+        left = count (staleOf (w * h) cleared);
+      })
+      (record { output = output; marks = marks; refusal = r; drawn = 0; left = 0 })
+
+  -- ---- show: the block's words in the output; nothing alters
+  unfoldable pub showEnd : List ℕ → List ℕ → ℕ → ℕ → ShowEnd
+  showEnd output marks bx by =
+      let r = refusalShow (S .side) (blockWords S) w h (length output) marks bx by in
+      cond (eqb r 0) (record { refusal = 0; words = blockAt S w h bx by output }) (record { refusal = r; words = replicate (blockWords S) 0 })
+
+  -- ---- the calls' contracts: from the buffers at entry, what is left and answered is e
+
+  pub record Opens (picture output marks : List ℕ) (e : OpenEnd) : Type 0 where
+    pub is : e ≡ openEnd picture output marks
+
+  pub record Paints (picture marks : List ℕ) (column row word : ℕ) (e : PaintEnd) : Type 0 where
+    pub is : e ≡ paintEnd picture marks column row word
+
+  pub record Refreshes (picture output marks : List ℕ) (n : ℕ) (e : RefreshEnd) : Type 0 where
+    pub is : e ≡ refreshEnd picture output marks n
+
+  pub record Shows (output marks : List ℕ) (bx by : ℕ) (e : ShowEnd) : Type 0 where
+    pub is : e ≡ showEnd output marks bx by

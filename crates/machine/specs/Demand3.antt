@@ -1,0 +1,105 @@
+-- Demand 3, for a screen: what holds of every list of calls on a freshly opened session, each call being bound by its contract alone. Definitions only;
+-- `proofs/Theorem.antt` proves it of the three-times screen.
+use mathlib.Core.Path.{_≡_}
+use mathlib.Core.Bool.{Bool, true, false}
+use mathlib.Core.List.{List, [], _∷_, map}
+use Prim.Native.Nat.{ℕ, suc, _+_, _-_, _*_, _<_}
+use lib.ListN.{getD, take, drop, replicate}
+use Rattle.machine.specs.Lists.{table, count}
+use Rattle.machine.specs.Screen.{Screen, blockWords}
+use Rattle.machine.specs.Machine.{State, Call, Paint, Refresh, Show, Answer, Painted, Refreshed, Shown, putAll, blockAt, opened, after, answers}
+use Rattle.machine.specs.Calls.{staleOf, PaintEnd, RefreshEnd, ShowEnd, Opens, Paints, Refreshes, Shows}
+
+-- a session's own buffers
+pub record Buffers : Type 0 where
+  pub picture : List ℕ
+  pub output : List ℕ
+  pub marks : List ℕ
+
+-- ---- lists of calls
+
+-- the calls cs, each lent the header (w, h) and the buffers as the call before left them, from b on; they answer rs and leave e
+pub data Ran (S : Screen) (w h : ℕ) : Buffers → List Call → List Answer → Buffers → Type 0 where
+  none : {b : Buffers} → Ran S w h b [] [] b
+  paint : {b e : Buffers} {cs : List Call} {rs : List Answer} {column row word : ℕ} {d : PaintEnd}
+      → Paints S w h (b .picture) (b .marks) column row word d
+      → Ran S w h (record { picture = d .picture; output = b .output; marks = d .marks }) cs rs e
+      → Ran S w h b (Paint column row word ∷ cs) (Painted (d .refusal) (d .changed) (d .stale) ∷ rs) e
+  refresh : {b e : Buffers} {cs : List Call} {rs : List Answer} {n : ℕ} {d : RefreshEnd}
+      → Refreshes S w h (b .picture) (b .output) (b .marks) n d
+      → Ran S w h (record { picture = b .picture; output = d .output; marks = d .marks }) cs rs e
+      → Ran S w h b (Refresh n ∷ cs) (Refreshed (d .refusal) (d .drawn) (d .left) ∷ rs) e
+  show : {b e : Buffers} {cs : List Call} {rs : List Answer} {bx by : ℕ} {d : ShowEnd}
+      → Shows S w h (b .output) (b .marks) bx by d
+      → Ran S w h b cs rs e
+      → Ran S w h b (Show bx by ∷ cs) (Shown (d .refusal) (d .words) ∷ rs) e
+
+-- an opening, given w and h, that is lent b, is not refused and answers the stale count; and a list of calls from where it ends, each lent the header
+-- that the opening answered
+pub record Trace (S : Screen) (w h : ℕ) (b : Buffers) (stale : ℕ) (cs : List Call) (rs : List Answer) (e : Buffers) : Type 0 where
+  pub width : ℕ
+  pub height : ℕ
+  pub output : List ℕ
+  pub marks : List ℕ
+  pub opens : Opens S w h (b .picture) (b .output) (b .marks)
+      (record { output = output; marks = marks; refusal = 0; width = width; height = height; stale = stale })
+  pub ran : Ran S width height (record { picture = b .picture; output = output; marks = marks }) cs rs e
+
+-- a further list: no paint, k refreshes of n blocks each, and any shows
+pub data Further (n : ℕ) : ℕ → List Call → Type 0 where
+  none : Further n 0 []
+  refresh : {k : ℕ} {cs : List Call} → Further n k cs → Further n (suc k) (Refresh n ∷ cs)
+  show : {k : ℕ} {cs : List Call} {bx by : ℕ} → Further n k cs → Further n k (Show bx by ∷ cs)
+
+-- ---- what is claimed of them
+
+-- the mark that stands for a block of the stale set, and for another
+abbrev pub byteOf : Bool → ℕ
+byteOf true = 1
+byteOf false = 0
+
+module _ (S : Screen) (w h : ℕ) where
+  -- a picture enlarged whole: every block drawn
+  abbrev pub whole : List ℕ → List ℕ
+  whole picture = putAll S w h picture (table (w * h) (λ b. b)) (replicate (blockWords S * (w * h)) 0)
+
+  -- the machine, given the opening's w, h and the first w * h words of its picture buffer
+  abbrev pub started : Buffers → State
+  started b = opened S w h (take (w * h) (b .picture))
+
+  -- the stale count, by the marks
+  abbrev pub left : Buffers → ℕ
+  left e = count (staleOf (w * h) (e .marks))
+
+  -- the buffers e hold the machine's state s, and past it what b held
+  pub record Holds (s : State) (b e : Buffers) : Type 0 where
+    pub picture-same : take (w * h) (e .picture) ≡ s .picture
+    pub output-same : take (blockWords S * (w * h)) (e .output) ≡ s .output
+    pub marks-same : take (w * h) (e .marks) ≡ map byteOf (s .stale)
+    pub picture-rest : drop (w * h) (e .picture) ≡ drop (w * h) (b .picture)
+    pub output-rest : drop (blockWords S * (w * h)) (e .output) ≡ drop (blockWords S * (w * h)) (b .output)
+    pub marks-rest : drop (w * h) (e .marks) ≡ drop (w * h) (b .marks)
+
+  -- of a list: b the buffers that the opening was lent, stale its count, rs the answers and e what the list left
+  pub record Follows (b : Buffers) (stale : ℕ) (cs : List Call) (rs : List Answer) (e : Buffers) : Type 0 where
+    pub same-count : stale ≡ count (started b .stale)
+    pub same-answers : rs ≡ answers S w h cs (started b)
+    pub same-state : Holds (after S w h cs (started b)) b e
+    -- a block that is not stale shows what enlarging the present picture whole puts there, which is the block as sections 1 to 6 draw it
+    pub blocks : (bx by : ℕ) → bx < w → by < h → getD (after S w h cs (started b) .stale) (by * w + bx) true ≡ false
+        → (blockAt S w h bx by (e .output) ≡ blockAt S w h bx by (whole (take (w * h) (e .picture))))
+        × (blockAt S w h bx by (e .output) ≡ S .draw w h (take (w * h) (e .picture)) bx by)
+    -- s stale blocks, and k further refreshes of n, leave the larger of 0 and s - k * n
+    pub counts-down : (n k : ℕ) (more : List Call) (rs′ : List Answer) (e′ : Buffers) → Further n k more → Ran S w h e more rs′ e′
+        → left e′ ≡ left e - k * n
+
+  -- of two lists, perhaps of two sessions with different first pictures: ending on the same picture with nothing stale, they hold the same output
+  abbrev pub SameOutput : Buffers → Buffers → Type 0
+  SameOutput e e′ =
+      take (w * h) (e .picture) ≡ take (w * h) (e′ .picture) → left e ≡ 0 → left e′ ≡ 0
+      → take (blockWords S * (w * h)) (e .output) ≡ take (blockWords S * (w * h)) (e′ .output)
+
+pub record Demand3 (S : Screen) : Type 0 where
+  pub each : {w h stale : ℕ} {b e : Buffers} {cs : List Call} {rs : List Answer} → Trace S w h b stale cs rs e → Follows S w h b stale cs rs e
+  pub two : {w h stale stale′ : ℕ} {b b′ e e′ : Buffers} {cs cs′ : List Call} {rs rs′ : List Answer}
+      → Trace S w h b stale cs rs e → Trace S w h b′ stale′ cs′ rs′ e′ → SameOutput S w h e e′

@@ -1,0 +1,107 @@
+-- Section 7's plain machine, for a picture of w by h on a screen S. It is given the opening's w, h and picture and each call's own arguments; it takes
+-- nothing from the program. Definitions only. Blocks are numbered in row order: block b is (b % w, b / w).
+use mathlib.Core.Bool.{Bool, true, false, cond, _&&_}
+use mathlib.Core.List.{List, [], _∷_}
+use Prim.Native.Nat.{ℕ, suc, _+_, _*_, _/_, _%_, min}
+use lib.Dec.{ltb, eqb}
+use lib.ListN.{getD, set, replicate}
+use Rattle.picture.specs.Refusal as refusal
+use Rattle.machine.specs.Lists.{table, stamp, setAll, count, first}
+use Rattle.machine.specs.Screen.{Screen, blockWords, place}
+
+-- Section 7's machine state
+pub record State : Type 0 where
+  -- w * h words, row by row
+  pub picture : List ℕ
+  -- the set of stale blocks: for each block, in row order, whether it is stale
+  pub stale : List Bool
+  -- blockWords S * (w * h) words, laid out as `place` says
+  pub output : List ℕ
+
+-- a call, with its arguments other than header, picture, output and marks
+pub data Call : Type 0 where
+  Paint : (column row word : ℕ) → Call
+  Refresh : (n : ℕ) → Call
+  Show : (bx by : ℕ) → Call
+
+-- a call's answer: the refusal's number, 0 for none, and what stands beside it, each number of which is 0 beside a refusal
+pub data Answer : Type 0 where
+  -- changed: 1 where the word was stored, 0 for unchanged; stale: the stale count
+  Painted : (refusal changed stale : ℕ) → Answer
+  Refreshed : (refusal drawn left : ℕ) → Answer
+  Shown : (refusal : ℕ) (words : List ℕ) → Answer
+
+-- the position lies inside the picture
+abbrev pub inside : ℕ → ℕ → ℕ → ℕ → Bool
+inside w h column row = ltb column w && ltb row h
+
+module _ (S : Screen) (w h : ℕ) where
+  -- block b lies inside the picture, and a changing paint at (column, row) names it
+  abbrev pub names : ℕ → ℕ → ℕ → Bool
+  names column row b = ltb b (w * h) && S .touches column row (b % w) (b / w)
+
+  -- a block's words stored in the output, the first of them being its word k
+  abbrev pub putWords : ℕ → ℕ → ℕ → List ℕ → List ℕ → List ℕ
+  putWords bx by k [] output = output
+  putWords bx by k (x ∷ xs) output = putWords bx by (suc k) xs (set output (place S w bx by k) x)
+
+  -- block b drawn from a picture
+  abbrev pub putBlock : List ℕ → ℕ → List ℕ → List ℕ
+  putBlock picture b output = putWords (b % w) (b / w) 0 (S .draw w h picture (b % w) (b / w)) output
+
+  -- each of some blocks drawn from a picture
+  abbrev pub putAll : List ℕ → List ℕ → List ℕ → List ℕ
+  putAll picture [] output = output
+  putAll picture (b ∷ bs) output = putAll picture bs (putBlock picture b output)
+
+  -- the words of block (bx, by) in the output, row by row
+  abbrev pub blockAt : ℕ → ℕ → List ℕ → List ℕ
+  blockAt bx by output = table (blockWords S) (λ k. getD output (place S w bx by k) 0)
+
+  -- ---- opening: all blocks stale, output words 0
+  abbrev pub opened : List ℕ → State
+  opened picture = record { picture = picture; stale = replicate (w * h) true; output = replicate (blockWords S * (w * h)) 0 }
+
+  -- ---- a paint of another word: it is stored, and the blocks that the paint names become stale
+  abbrev pub store : ℕ → ℕ → ℕ → State → State
+  store column row word s = record {
+    picture = set (s .picture) (row * w + column) word;
+    stale = stamp (names column row) true (s .stale);
+    output = s .output;
+  }
+
+  -- ---- the first k stale blocks in row order drawn from the present picture, and not stale
+  abbrev pub redraw : ℕ → State → State
+  redraw k s = record {
+    picture = s .picture;
+    stale = setAll (first k (s .stale)) false (s .stale);
+    output = putAll (s .picture) (first k (s .stale)) (s .output);
+  }
+
+  -- ---- a call: the state after it, and its answer. Of the refusals only 5 and 7 can be read on the machine's state: the opening was not refused, so the
+  -- sides are within their limit, and the machine has no buffer that could be short.
+  abbrev pub step : Call → State → State × Answer
+  step (Paint column row word) s =
+      cond (inside w h column row)
+      (cond (eqb word (getD (s .picture) (row * w + column) 0))
+      (s, Painted 0 0 (count (s .stale)))
+      (store column row word s, Painted 0 1 (count (store column row word s .stale))))
+      (s, Painted refusal.outside 0 0)
+  step (Refresh n) s =
+      let k = min n (count (s .stale)) in
+      (redraw k s, Refreshed 0 k (count (redraw k s .stale)))
+  step (Show bx by) s = (
+    s,
+    cond (inside w h bx by)
+        (cond (getD (s .stale) (by * w + bx) true) (Shown refusal.stale (replicate (blockWords S) 0)) (Shown 0 (blockAt bx by (s .output))))
+        (Shown refusal.outside (replicate (blockWords S) 0)),
+  )
+
+  -- ---- a list of calls: the state after it, and the answer of each call in its place
+  abbrev pub after : List Call → State → State
+  after [] s = s
+  after (c ∷ cs) s = after cs (step c s .0)
+
+  abbrev pub answers : List Call → State → List Answer
+  answers [] s = []
+  answers (c ∷ cs) s = step c s .1 ∷ answers cs (step c s .0)

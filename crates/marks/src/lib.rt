@@ -1,0 +1,153 @@
+// The marks: a byte for each block, 0 for not stale and any other for stale. They are counted, searched for runs and tiles of stale blocks, set round a
+// position and cleared. Nothing here knows how a block is drawn, nor how far a paint reaches.
+use place::least;
+use place::less;
+ghost use mathlib.Core.Path.{_≡_};
+ghost use mathlib.Core.List.{[], _∷_};
+ghost use Prim.Native.Nat.{_+_, _*_, _<_, _≤_, min};
+ghost use lib.Dec.{eqb};
+ghost use lib.ListN.{length, getD};
+ghost use Rattle.machine.specs.Lists.{count, stamp, setAll};
+ghost use Rattle.machine.specs.Calls.{isStale};
+ghost use Rattle.marks.specs.Marks.{run, staleIn, blocksFrom, tileBlocks, StaleRun, StaleTile, TileStart, boxed};
+
+pub mod place;
+
+// 1 for a stale block, 0 for another.
+fn one_if_stale(mark: u8) -> u8
+    ensures { λ r. ⌜ r ≡ count (isStale mark ∷ []) ⌝ }
+{
+    if mark != 0 {
+        return 1;
+    }
+    0
+}
+
+// How many of the marks lo to hi - 1 are stale, of at most 224: a byte holds the count, so that the compiler takes 32
+// marks at a time.
+fn count_run(marks: &[u8], lo: usize, hi: usize) -> u8
+    requires { ⌜ (lo ≤ hi) × ((hi ≤ lo + 224) × (hi ≤ length (now marks))) ⌝ }
+    ensures { λ r. ⌜ r ≡ count (staleIn lo hi (now (marks .entry))) ⌝ }
+{
+    let mut c: u8 = 0;
+    let mut i = lo;
+    while i < hi {
+        c += one_if_stale(marks[i]);
+        i += 1;
+    }
+    c
+}
+
+// Where the run of marks that is counted from i ends.
+fn run_end(i: usize, hi: usize) -> usize
+    requires { ⌜ i ≤ hi ⌝ }
+    ensures { λ r. ⌜ r ≡ min (i + 224) hi ⌝ }
+{
+    if hi - i < 224 {
+        return hi;
+    }
+    i + 224
+}
+
+// How many of the marks lo to hi - 1 are stale.
+pub fn count_stale(marks: &[u8], lo: usize, hi: usize) -> u32
+    requires { ⌜ (lo ≤ hi) × ((hi ≤ 4194304) × (hi ≤ length (now marks))) ⌝ }
+    ensures { λ r. ⌜ r ≡ count (staleIn lo hi (now (marks .entry))) ⌝ }
+{
+    let mut c: u32 = 0;
+    let mut i = lo;
+    while i < hi {
+        let e = run_end(i, hi);
+        c += count_run(marks, i, e) as u32;
+        i = e;
+    }
+    c
+}
+
+// How many stale marks stand side by side from i on, itself one of them, as far as `most`.
+pub fn stale_run(marks: &[u8], i: usize, most: u32) -> u32
+    requires { ⌜ (0 < most) × ((i + most ≤ length (now marks)) × (getD (now marks) i 0 ≡ 0 → ⊥)) ⌝ }
+    ensures { λ r. ⌜ StaleRun i most (now (marks .entry)) r ⌝ }
+{
+    let mut k: u32 = 1;
+    while k < most && marks[i + (k as usize)] != 0 {
+        k += 1;
+    }
+    k
+}
+
+// Whether the k blocks from (x, y) on are all stale.
+fn row_stale(marks: &[u8], w: u32, x: u32, y: u32, k: u32) -> bool
+    requires { ⌜ (y * w + x + k ≤ 4194304) × (y * w + x + k ≤ length (now marks)) ⌝ }
+    ensures { λ r. ⌜ r ≡ eqb (count (staleIn (y * w + x) (y * w + x + k) (now (marks .entry)))) k ⌝ }
+{
+    let i = (y as usize) * (w as usize) + (x as usize);
+    count_stale(marks, i, i + (k as usize)) == k
+}
+
+// How many rows from y on, as far as `most`, have all k blocks from column x on stale; row y is one of them.
+pub fn tile_rows(marks: &[u8], w: u32, h: u32, x: u32, y: u32, k: u32, most: u32) -> u32
+    requires { ⌜ (TileStart w h x y k (now marks)) × (0 < most) ⌝ }
+    ensures { λ r. ⌜ StaleTile w h x y k most (now (marks .entry)) r ⌝ }
+{
+    let end = least(most, h - y);
+    let mut r: u32 = 1;
+    while r < end && row_stale(marks, w, x, y + r, k) {
+        r += 1;
+    }
+    r
+}
+
+// Marks lo to hi - 1 made stale.
+pub fn mark_run(marks: &mut [u8], lo: usize, hi: usize)
+    requires { ⌜ (lo ≤ hi) × (hi ≤ length (now marks)) ⌝ }
+    ensures { λ r. ⌜ now (marks .exit) ≡ stamp (run lo hi) 1 (now (marks .entry)) ⌝ }
+{
+    let mut i: usize = lo;
+    while i < hi {
+        marks[i] = 1;
+        i += 1;
+    }
+}
+
+// The blocks at most `side` columns beside (column, row), `up` rows above and `down` rows below made stale, row by row.
+pub fn mark_box(marks: &mut [u8], w: u32, h: u32, column: u32, row: u32, side: u32, up: u32, down: u32)
+    requires { ⌜ (w ≤ 2048) × ((h ≤ 2048) × ((column < w) × ((row < h) × ((side ≤ 2048) × ((down ≤ 2048)
+        × (w * h ≤ length (now marks))))))) ⌝ }
+    ensures { λ r. ⌜ now (marks .exit) ≡ stamp (boxed w h column row side up down) 1 (now (marks .entry)) ⌝ }
+{
+    let width = w as usize;
+    let x0 = less(column, side) as usize;
+    let x1 = least(column + side + 1, w) as usize;
+    let y1 = least(row + down + 1, h) as usize;
+    let mut y = less(row, up) as usize;
+    while y < y1 {
+        mark_run(marks, y * width + x0, y * width + x1);
+        y += 1;
+    }
+}
+
+// The k blocks from b on no longer stale.
+fn clear_run(marks: &mut [u8], b: usize, k: u32)
+    requires { ⌜ b + k ≤ length (now marks) ⌝ }
+    ensures { λ _. ⌜ now (marks .exit) ≡ setAll (blocksFrom b k) 0 (now (marks .entry)) ⌝ }
+{
+    let mut i: u32 = 0;
+    while i < k {
+        marks[b + (i as usize)] = 0;
+        i += 1;
+    }
+}
+
+// The k by r blocks from (x, y) on no longer stale.
+pub fn clear_tile(marks: &mut [u8], w: u32, x: u32, y: u32, k: u32, r: u32)
+    requires { ⌜ (x + k ≤ w) × ((y + r ≤ 2048) × ((y + r) * w ≤ length (now marks))) ⌝ }
+    ensures { λ _. ⌜ now (marks .exit) ≡ setAll (tileBlocks w x y k r) 0 (now (marks .entry)) ⌝ }
+{
+    let mut j: u32 = 0;
+    while j < r {
+        let b = ((y + j) as usize) * (w as usize) + (x as usize);
+        clear_run(marks, b, k);
+        j += 1;
+    }
+}

@@ -1,0 +1,79 @@
+// Why a call of a session is refused: the number of the first condition that holds, 0 for none. side is the screen's limit of a side, words how many words a
+// block has; p, o and m are the lengths of the picture, the output and the marks.
+use picture::refusal;
+ghost use mathlib.Core.Path.{_≡_};
+ghost use Prim.Native.Nat.{_≤_};
+ghost use Rattle.machine.specs.Calls.{sideLong, refusalAll, refusalPaint, refusalShow};
+
+// A side past its limit.
+fn side_long(side: u32, w: u32, h: u32) -> bool
+    ensures { λ r. ⌜ r ≡ sideLong side w h ⌝ }
+{
+    (side < w) | (side < h)
+}
+
+// Of a call that is lent all three buffers.
+pub fn refuse_all(side: u32, words: usize, w: u32, h: u32, p: usize, o: usize, m: usize) -> u32
+    requires { ⌜ (side ≤ 2048) × (words ≤ 81) ⌝ }
+    ensures { λ r. ⌜ r ≡ refusalAll side words w h p o m ⌝ }
+{
+    if side_long(side, w, h) {
+        return refusal::SIDE;
+    }
+    let n = (w as usize) * (h as usize);
+    if p < n {
+        return refusal::PICTURE;
+    }
+    if o < words * n {
+        return refusal::OUTPUT;
+    }
+    if m < n {
+        return refusal::SCRATCH;
+    }
+    refusal::NONE
+}
+
+// Of a paint at (column, row), which is lent no output.
+pub fn refuse_paint(side: u32, w: u32, h: u32, p: usize, m: usize, column: u32, row: u32) -> u32
+    requires { ⌜ side ≤ 2048 ⌝ }
+    ensures { λ r. ⌜ r ≡ refusalPaint side w h p m column row ⌝ }
+{
+    if side_long(side, w, h) {
+        return refusal::SIDE;
+    }
+    let n = (w as usize) * (h as usize);
+    if p < n {
+        return refusal::PICTURE;
+    }
+    if m < n {
+        return refusal::SCRATCH;
+    }
+    if (column < w) & (row < h) {
+        return refusal::NONE;
+    }
+    refusal::OUTSIDE
+}
+
+// Of a show of block (bx, by), which looks at the block's mark too.
+pub fn refuse_show(side: u32, words: usize, w: u32, h: u32, o: usize, marks: &[u8], bx: u32, by: u32) -> u32
+    requires { ⌜ (side ≤ 2048) × (words ≤ 81) ⌝ }
+    ensures { λ r. ⌜ r ≡ refusalShow side words w h o (now (marks .entry)) bx by ⌝ }
+{
+    if side_long(side, w, h) {
+        return refusal::SIDE;
+    }
+    let n = (w as usize) * (h as usize);
+    if o < words * n {
+        return refusal::OUTPUT;
+    }
+    if marks.len() < n {
+        return refusal::SCRATCH;
+    }
+    if (bx < w) & (by < h) {
+        if marks[(by as usize) * (w as usize) + (bx as usize)] != 0 {
+            return refusal::STALE;
+        }
+        return refusal::NONE;
+    }
+    refusal::OUTSIDE
+}

@@ -1,7 +1,0 @@
-pub mod Lists
-pub mod Screen
-pub mod Machine
-pub mod Calls
-pub mod Demand3
-pub mod Three
-pub mod Steps

@@ -1,0 +1,3 @@
+pub mod Three
+pub mod Words
+pub mod Tiles

@@ -1,0 +1,27 @@
+-- The three-times screen: blocks of 3 by 3 words as sections 1 to 6 draw them, and the box of section 7. Definitions only.
+use mathlib.Core.Bool.{Bool, _&&_}
+use mathlib.Core.List.{List, [], _∷_}
+use Prim.Native.Nat.{ℕ, _+_, _-_}
+use lib.ListN.{getD}
+use Rattle.picture.specs.Picture.{words}
+use Rattle.block.specs.Block.{blockOf}
+use Rattle.machine.specs.Screen.{Screen}
+use Rattle.marks.specs.Marks.{between}
+
+-- the blocks that a changing paint at (column, row) names, before the picture's borders; a difference below 0 is 0
+abbrev pub box3 : ℕ → ℕ → ℕ → ℕ → Bool
+box3 column row bx by = between (column - 6) (column + 6) bx && between (row - 5) (row + 6) by
+
+-- the block of 9 words, drawn from the picture's words
+abbrev pub draw3 : ℕ → ℕ → List ℕ → ℕ → ℕ → List ℕ
+draw3 w h picture bx by = blockOf w h (words w picture) bx by
+
+abbrev pub screen3 : Screen
+screen3 = record { scale = 3; side = 2048; touches = box3; draw = draw3 }
+
+-- nine words, in three rows of three that start at a, b and c
+abbrev pub rowsAt : ℕ → ℕ → ℕ → List ℕ → List ℕ
+rowsAt a b c output =
+    getD output a 0 ∷ getD output (a + 1) 0 ∷ getD output (a + 2) 0
+    ∷ getD output b 0 ∷ getD output (b + 1) 0 ∷ getD output (b + 2) 0
+    ∷ getD output c 0 ∷ getD output (c + 1) 0 ∷ getD output (c + 2) 0 ∷ []
