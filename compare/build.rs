@@ -1,7 +1,9 @@
 //! Finds the original ScaleFX and the proved library, and makes both ready to link.
 //!
 //! `PANEL_ORIGINAL` names the folder that holds `src/scaling/scalefx.rs` and `src/scaling/mod.rs`; without
-//! it `../shared/docs/src` beside the repository is tried. Where the original is found, the cfg `original` is set.
+//! it `../shared/docs/src` beside the repository is tried. Where both files are found, the cfg `original` is set. Where one
+//! is not, the program is built all the same, without the subcommands that need the original: it says so when it is asked
+//! for one of them, with the folder in which the original was sought, and fails where `CI` is set and not empty.
 //! `PANEL_LIBRARY` names the folder of `libpanel.a`; without it the repository's `target/staticlib`.
 
 use std::env;
@@ -22,10 +24,15 @@ fn main() {
     link(&named("PANEL_LIBRARY", "target/staticlib"));
     println!("cargo:rustc-check-cfg=cfg(original)");
     let scaling = named("PANEL_ORIGINAL", "../shared/docs/src").join("src/scaling");
-    if scaling.is_dir() {
+    // these two are looked at again at the next build, also where they are not there yet
+    let files = ["scalefx.rs", "mod.rs"].map(|name| scaling.join(name));
+    files.iter().for_each(|file| println!("cargo:rerun-if-changed={}", file.display()));
+    if files.iter().all(|file| file.is_file()) {
         let scaling = scaling.canonicalize().unwrap();
         generate(&scaling, &PathBuf::from(env::var("OUT_DIR").unwrap()));
         println!("cargo:rustc-cfg=original");
+    } else {
+        println!("cargo:rustc-env=PANEL_SOUGHT={}", scaling.display());
     }
 }
 
@@ -38,8 +45,6 @@ fn link(folder: &Path) {
 /// Writes a module with `get` of mod.rs, scalefx.rs itself, unchanged, and the copy with its stages exposed.
 fn generate(scaling: &Path, out: &Path) {
     let (file, module) = (scaling.join("scalefx.rs"), scaling.join("mod.rs"));
-    println!("cargo:rerun-if-changed={}", file.display());
-    println!("cargo:rerun-if-changed={}", module.display());
     let text = fs::read_to_string(&file).expect("scalefx.rs");
     let get = function(&fs::read_to_string(&module).expect("mod.rs"), "get");
     let stages = out.join("stages.rs");

@@ -60,7 +60,7 @@ fn place<T: Bits>(name: &str, got: &Lent<T>, expected: &Lent<T>) -> Option<Strin
 }
 
 /// The refusal of sizes: sides, then the buffers that the call is lent.
-pub fn sizes([w, h]: [u32; 2], picture: Option<usize>, output: Option<usize>, marks: usize) -> u32 {
+fn sizes([w, h]: [u32; 2], picture: Option<usize>, output: Option<usize>, marks: usize) -> u32 {
     let wh = u64::from(w) * u64::from(h);
     let short = |len: Option<usize>, each: u64| len.is_some_and(|len| (len as u64) < each * wh);
     if w > 2048 || h > 2048 {
@@ -77,7 +77,7 @@ pub fn sizes([w, h]: [u32; 2], picture: Option<usize>, output: Option<usize>, ma
 }
 
 /// What one call answers, and what it leaves in the buffers.
-pub fn alone(header: [u32; 2], buffers: &mut Buffers, call: Call) -> Answer {
+fn alone(header: [u32; 2], buffers: &mut Buffers, call: Call) -> Answer {
     let (picture, output, marks) = buffers.lengths();
     let (refusal, at) = match call {
         Call::Paint { column, row, .. } => (sizes(header, Some(picture), None, marks), Some((column, row))),
@@ -137,4 +137,35 @@ fn show(w: usize, buffers: &Buffers, bx: usize, by: usize) -> Answer {
     }
     let word = |k: usize| buffers.output.part()[(3 * by + k / 3) * (3 * w) + 3 * bx + k % 3];
     Answer::Shown(std::array::from_fn(word))
+}
+
+/// One call of the library on these buffers, beside the rules.
+pub fn call_alone(header: [u32; 2], mut got: Buffers, call: Call) -> Result<(), String> {
+    let mut expected = got.clone();
+    let said = got.call(header, call);
+    let should = Ok(alone(header, &mut expected, call));
+    let text = if said == should {
+        got.difference(&expected)
+    } else {
+        Some(format!("answered {said:?}, expected {should:?}"))
+    };
+    text.map_or(Ok(()), |text| Err(format!("alone, header {header:?}, {call:?}: {text}")))
+}
+
+/// One opening by the library on these buffers, beside the rules.
+pub fn opening(header: [u32; 2], mut got: Buffers) -> Result<(), String> {
+    let mut expected = got.clone();
+    let opened = panel::open(header[0], header[1], got.picture.part(), got.output.part_mut(), got.marks.part_mut());
+    let lengths = got.lengths();
+    let refusal = sizes(header, Some(lengths.0), Some(lengths.1), lengths.2);
+    let mut should = panel::Opened { refusal, header: [0; 2], stale: 0 };
+    if refusal == 0 {
+        let wh = header[0] as usize * header[1] as usize;
+        should = panel::Opened { refusal, header, stale: wh as u32 };
+        expected.output.put(&vec![0; 9 * wh]);
+        expected.marks.put(&vec![1; wh]);
+    }
+    let text =
+        if opened == should { got.difference(&expected) } else { Some(format!("{opened:?}, expected {should:?}")) };
+    text.map_or(Ok(()), |text| Err(format!("opening {header:?} with lengths {lengths:?}: {text}")))
 }

@@ -2,22 +2,22 @@
 //! The library's buffers are made and written once before the first repetition and not cleared between them: what they
 //! hold does not matter to it. The original makes its own at each call.
 
+use super::bench_session;
 use super::font;
 use super::original;
 use super::random::Random;
+use super::times::{best, time, Form};
 use crate::panel;
 use std::hint::black_box;
-use std::time::Instant;
 
 /// Sides by repetitions.
 const SCALE: [(usize, usize); 4] = [(64, 40), (256, 10), (1024, 3), (2048, 2)];
 const SCALE9X: [(usize, usize); 3] = [(64, 12), (256, 3), (682, 2)];
-const SESSION_SIDE: usize = 256;
 
 /// The pictures by name: a page of text, and noise.
-const PICTURES: [&str; 2] = ["page", "noise"];
+pub const PICTURES: [&str; 2] = ["page", "noise"];
 
-fn picture(name: &str, side: usize) -> Vec<u32> {
+pub fn picture(name: &str, side: usize) -> Vec<u32> {
     match name {
         "page" => font::page(side, side, 0, 0),
         _ => {
@@ -70,7 +70,7 @@ impl Buffers {
 
 // Kept out of line, so that a profiler finds them by name.
 #[inline(never)]
-fn original_scale(picture: &[u32], side: usize) -> Vec<u32> {
+pub fn original_scale(picture: &[u32], side: usize) -> Vec<u32> {
     original::scale(picture, side, side)
 }
 
@@ -79,141 +79,60 @@ fn original_scale9x(picture: &[u32], side: usize) -> Vec<u32> {
     original::scale9x(picture, side, side)
 }
 
-/// Nanoseconds of one run.
-fn time(run: impl FnOnce()) -> f64 {
-    let start = Instant::now();
-    run();
-    start.elapsed().as_nanos() as f64
-}
-
-/// The best of some runs of each, by turns.
-fn best(repetitions: usize, mut first: impl FnMut(), mut second: impl FnMut()) -> (f64, f64) {
-    let (mut a, mut b) = (f64::INFINITY, f64::INFINITY);
-    for _ in 0..repetitions {
-        a = a.min(time(&mut first));
-        b = b.min(time(&mut second));
-    }
-    (a, b)
-}
-
-fn line(call: &str, name: &str, side: usize, (original, ours): (f64, f64)) {
-    let pixels = (side * side) as f64;
-    println!(
-        "{call:<8} {name:<6} {side:>5}   original {:>8.1}   library {:>8.1}   library / original {:>6.3}",
+fn row(form: Form, call: &str, name: &str, side: usize, (original, ours): (f64, f64)) {
+    let (pixels, ratio) = ((side * side) as f64, ours / original);
+    let line = format!(
+        "{call:<8} {name:<6} {side:>5}   original {:>8.1}   library {:>8.1}   library / original {ratio:>6.3}",
         original / pixels,
-        ours / pixels,
-        ours / original
+        ours / pixels
     );
+    form.row(&line, &format!("{call} {name} {side}"), ratio, ours);
 }
 
-fn whole_pictures() {
-    println!("nanoseconds a pixel of the picture; the library's buffers are written beforehand and not cleared");
+fn three_times(form: Form) {
     for name in PICTURES {
         for (side, repetitions) in SCALE {
             let (picture, mut buffers) = (picture(name, side), Buffers::three(side * side));
-            let original = || drop(black_box(original_scale(black_box(&picture), side)));
-            line("scale", name, side, best(repetitions, original, || buffers.scale(black_box(&picture), side)));
+            let original = || time(|| drop(black_box(original_scale(black_box(&picture), side))));
+            let ours = || time(|| buffers.scale(black_box(&picture), side));
+            row(form, "scale", name, side, best(repetitions, original, ours));
         }
     }
+}
+
+fn nine_times(form: Form) {
     for name in PICTURES {
         for (side, repetitions) in SCALE9X {
             let (picture, mut buffers) = (picture(name, side), Buffers::nine(side * side));
-            let original = || drop(black_box(original_scale9x(black_box(&picture), side)));
-            line("scale9x", name, side, best(repetitions, original, || buffers.scale9x(black_box(&picture), side)));
+            let original = || time(|| drop(black_box(original_scale9x(black_box(&picture), side))));
+            let ours = || time(|| buffers.scale9x(black_box(&picture), side));
+            row(form, "scale9x", name, side, best(repetitions, original, ours));
         }
     }
 }
 
-/// A session on a picture, with everything drawn.
-struct Session {
-    header: [u32; 2],
-    picture: Vec<u32>,
-    output: Vec<u32>,
-    marks: Vec<u8>,
-}
+/// The parts by name.
+const PARTS: [&str; 3] = ["scale", "scale9x", "session"];
 
-impl Session {
-    fn open(picture: &[u32], side: usize) -> Session {
-        let (mut output, mut marks) = (vec![1; 9 * side * side], vec![0; side * side]);
-        let opened = panel::open(side as u32, side as u32, picture, &mut output, &mut marks);
-        assert_eq!(opened.refusal, 0);
-        Session { header: opened.header, picture: picture.to_vec(), output, marks }
+/// Prints the times of the parts named, or of all; nothing is compared, and nothing run where a word is no part.
+pub fn run(form: Form, parts: &[&str]) -> Option<bool> {
+    if parts.iter().any(|part| !PARTS.contains(part)) {
+        return None;
     }
-
-    fn refresh(&mut self) -> panel::Refreshed {
-        panel::refresh(self.header, &self.picture, &mut self.output, &mut self.marks, u32::MAX)
+    let wanted = |part: &str| parts.is_empty() || parts.contains(&part);
+    if wanted("scale") || wanted("scale9x") {
+        form.note("nanoseconds a pixel of the picture; the library's buffers are written beforehand and not cleared");
     }
-
-    fn paint(&mut self, column: usize, row: usize, word: u32) -> panel::Painted {
-        panel::paint(self.header, &mut self.picture, &mut self.marks, column as u32, row as u32, word)
+    if wanted("scale") {
+        three_times(form);
     }
-}
-
-/// The middle one of some times.
-fn median(times: impl Iterator<Item = f64>) -> f64 {
-    let mut times: Vec<f64> = times.collect();
-    times.sort_by(f64::total_cmp);
-    times[times.len() / 2]
-}
-
-/// All marks in one byte: each is read once, as fast as the compiler can make it.
-#[inline(never)]
-fn read_marks(marks: &[u8]) -> u8 {
-    marks.iter().fold(0, |all, mark| all | mark)
-}
-
-fn session() {
-    let side = SESSION_SIDE;
-    println!("a session of {side} by {side}: microseconds, beside one whole scale of the original");
-    for name in PICTURES {
-        let picture = picture(name, side);
-        let full =
-            (0..5).map(|_| time(|| drop(black_box(original_scale(&picture, side))))).fold(f64::INFINITY, f64::min);
-        let say = |what: &str, ns: f64| {
-            println!(
-                "{name:<6} {what:<52} {:>10.1}   original whole {:>9.1}   ratio {:>8.5}",
-                ns / 1e3,
-                full / 1e3,
-                ns / full
-            );
-        };
-        let mut session = Session::open(&picture, side);
-        let least = |times: &mut dyn Iterator<Item = f64>| times.fold(f64::INFINITY, f64::min);
-        let first = least(&mut (0..3).map(|_| {
-            session = Session::open(&picture, side);
-            time(|| assert_eq!(session.refresh().left, 0))
-        }));
-        say("first refresh of everything after opening", first);
-        let changed = median((0..200).map(|i| {
-            let (column, row) = (20 + 37 * i % 200, 20 + 53 * i % 200);
-            let word = session.picture[row * side + column] ^ 0x00ff_ffff;
-            time(|| {
-                assert_eq!(session.paint(column, row, word).changed, 1);
-                assert_eq!(session.refresh().left, 0);
-            })
-        }));
-        say("one changed pixel: paint, and refresh until none is stale", changed);
-        let (word, marks) = (session.picture[100 * side + 100], session.marks.clone());
-        let (once, equal) = best(
-            200,
-            || assert_eq!(read_marks(black_box(&marks)), 0),
-            || assert_eq!(session.paint(100, 100, word).changed, 0),
-        );
-        say("the marks read once, by plain Rust", once);
-        say("paint of an equal word, with its stale count", equal);
-        println!("{name:<6} the paint of an equal word takes {:.2} times the marks read once", equal / once);
-        say(
-            "refresh with nothing stale",
-            least(&mut (0..200).map(|_| time(|| assert_eq!(session.refresh().drawn, 0)))),
-        );
+    if wanted("scale9x") {
+        nine_times(form);
     }
-}
-
-/// Prints the times; nothing is compared.
-pub fn run() -> bool {
-    whole_pictures();
-    session();
-    true
+    if wanted("session") {
+        bench_session::run(form);
+    }
+    Some(true)
 }
 
 /// One call of the library or of the original, to be run under a profiler; nothing where a word is not understood.

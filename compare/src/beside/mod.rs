@@ -2,18 +2,24 @@
 
 mod alone;
 mod bench;
+mod bench_session;
 mod case;
 mod distance;
 mod font;
+mod largest;
 mod lent;
 mod machine;
 mod original;
 mod page;
+mod pair;
 mod pictures;
 mod random;
 mod record;
 mod session;
+mod times;
 mod whole;
+
+use times::Form;
 
 /// Runs a subcommand: whether nothing differs, or nothing where the words are not understood.
 pub fn run(name: &str, rest: &[&str]) -> Option<bool> {
@@ -24,8 +30,9 @@ pub fn run(name: &str, rest: &[&str]) -> Option<bool> {
         ("page", _) => counted(page::run, 4_000, rest),
         ("record", []) => Some(record::run()),
         ("record", ["--write"]) => Some(record::write()),
-        ("bench", []) => Some(bench::run()),
         ("bench", ["--calls", calls @ ..]) => bench::calls(calls),
+        ("bench", ["--rows", parts @ ..]) => bench::run(Form::Rows, parts),
+        ("bench", parts) => bench::run(Form::Lines, parts),
         _ => None,
     }
 }

@@ -2,12 +2,13 @@
 //! Between the calls of a list, calls with any header, any marks and any lengths run on copies of the buffers, beside
 //! what the rules say of one call alone.
 
-use super::alone::{alone, sizes, Buffers};
+use super::alone::{call_alone, opening, Buffers};
+use super::largest;
 use super::lent::Lent;
-use super::machine::{Answer, Call, Machine};
+use super::machine::{Answer, Call};
+use super::pair::Pair;
 use super::pictures::KINDS;
 use super::random::Random;
-use crate::panel;
 
 // ---- random lists
 
@@ -95,46 +96,26 @@ fn wild(random: &mut Random, header: [u32; 2], buffers: &Buffers) -> ([u32; 2], 
     (header, Buffers { picture, output, marks })
 }
 
-fn wrong_alone(random: &mut Random, header: [u32; 2], buffers: &Buffers) -> Option<String> {
-    let (header, mut got) = wild(random, header, buffers);
+fn any_alone(random: &mut Random, header: [u32; 2], buffers: &Buffers) -> Result<(), String> {
+    let (header, got) = wild(random, header, buffers);
     let call = any_call(random, header[0].min(60) as usize, header[1].min(60) as usize, got.picture.part());
-    let mut expected = got.clone();
-    let said = got.call(header, call);
-    let should = Ok(alone(header, &mut expected, call));
-    let text = if said == should {
-        got.difference(&expected)
-    } else {
-        Some(format!("answered {said:?}, expected {should:?}"))
-    };
-    text.map(|text| format!("alone, header {header:?}, {call:?}: {text}"))
+    call_alone(header, got, call)
 }
 
 // ---- opening
 
 /// An opening of any sizes on any lengths that is refused, or on sides of 0.
-fn wrong_opening(random: &mut Random) -> Option<String> {
+fn any_opening(random: &mut Random) -> Result<(), String> {
     let side = |random: &mut Random| random.pick(&[0, 1, 2, 3, 5, 2048, 2049, 65536, u32::MAX]);
     let header = [side(random), side(random)];
     let wh = (u64::from(header[0]) * u64::from(header[1])).min(40) as usize;
     let cut = |random: &mut Random, len: usize| if random.one_in(3) { len.saturating_sub(1) } else { len };
-    let mut got = Buffers {
+    let got = Buffers {
         picture: Lent::new(cut(random, wh), random),
         output: Lent::new(cut(random, 9 * wh), random),
         marks: Lent::new(cut(random, wh), random),
     };
-    let mut expected = got.clone();
-    let opened = panel::open(header[0], header[1], got.picture.part(), got.output.part_mut(), got.marks.part_mut());
-    let lengths = (got.picture.part().len(), got.output.part().len(), got.marks.part().len());
-    let refusal = sizes(header, Some(lengths.0), Some(lengths.1), lengths.2);
-    let mut should = panel::Opened { refusal, header: [0; 2], stale: 0 };
-    if refusal == 0 {
-        should = panel::Opened { refusal, header, stale: wh as u32 };
-        expected.output.put(&vec![0; 9 * wh]);
-        expected.marks.put(&vec![1; wh]);
-    }
-    let text =
-        if opened == should { got.difference(&expected) } else { Some(format!("{opened:?}, expected {should:?}")) };
-    text.map(|text| format!("opening {header:?} with lengths {lengths:?}: {text}"))
+    opening(header, got)
 }
 
 // ---- the run
@@ -147,73 +128,54 @@ struct Tally {
     alone: usize,
 }
 
-/// The expected buffers: the machine's state at the front, the rest as it was lent.
-fn follow(expected: &mut Buffers, machine: &Machine) {
-    expected.picture.put(&machine.picture);
-    expected.output.put(&machine.output);
-    let marks: Vec<u8> = machine.stale.iter().map(|&stale| u8::from(stale)).collect();
-    expected.marks.put(&marks);
-}
-
-fn wrong_list(random: &mut Random, kind: usize, tally: &mut Tally) -> Option<String> {
+fn any_list(random: &mut Random, kind: usize, tally: &mut Tally) -> Result<(), String> {
     let (w, h) = any_size(random);
     let first = KINDS[kind].picture(random, w, h);
     let lengths = (any_length(random, w * h), any_length(random, 9 * w * h), any_length(random, w * h));
-    let mut got = Buffers {
-        picture: Lent::with(&first, lengths.0, random),
-        output: Lent::new(lengths.1, random),
-        marks: Lent::new(lengths.2, random),
-    };
-    let mut expected = got.clone();
-    let opened = panel::open(w as u32, h as u32, got.picture.part(), got.output.part_mut(), got.marks.part_mut());
-    let mut machine = Machine::open(w, h, &first);
-    let should = panel::Opened { refusal: 0, header: [w as u32, h as u32], stale: machine.stale_count() };
-    let mut list = format!("{w} by {h}, lengths {lengths:?}, picture {first:08x?}");
-    if opened != should {
-        return Some(format!("{list}: opening answered {opened:?}, expected {should:?}"));
-    }
-    follow(&mut expected, &machine);
-    if let Some(text) = got.difference(&expected) {
-        return Some(format!("{list}: after opening {text}"));
-    }
+    let title = format!("{w} by {h}, lengths {lengths:?}, picture {first:08x?}");
+    let mut pair = Pair::open(title, (w, h), &first, lengths, random)?;
     tally.lists += 1;
     let drawn_first = random.one_in(2);
     for turn in 0..random.between(1, 24) {
         let call = if drawn_first && turn == 0 {
             Call::Refresh { n: u32::MAX }
         } else {
-            any_call(random, w, h, &machine.picture)
+            any_call(random, w, h, &pair.machine.picture)
         };
-        list += &format!("\n  {call:?}");
-        let (said, should) = (got.call(opened.header, call), machine.call(call));
-        if said != Ok(should) {
-            return Some(format!("{list}: answered {said:?}, expected {should:?}"));
-        }
-        follow(&mut expected, &machine);
-        if let Some(text) = got.difference(&expected) {
-            return Some(format!("{list}: afterwards {text}"));
-        }
+        let answer = pair.call(call)?;
+        pair.same()?;
         tally.calls += 1;
-        tally.refused += usize::from(matches!(should, Answer::Refused(_)));
+        tally.refused += usize::from(matches!(answer, Answer::Refused(_)));
         if random.one_in(4) {
             tally.alone += 1;
-            let text = wrong_alone(random, opened.header, &got);
-            if text.is_some() {
-                return text;
-            }
+            any_alone(random, pair.header, &pair.got)?;
         }
     }
-    None
+    Ok(())
 }
 
-/// A count of lists; true where nothing differs. The reproduction printed is the shortest list of those that differ.
+/// The largest sides; true where nothing differs.
+fn run_largest(seed: u64) -> bool {
+    let ran = largest::run(&mut Random::new(seed));
+    match &ran {
+        Ok(calls) => println!(
+            "session: 2048 by 1, 1 by 2048 and 2048 by 2048 in {calls} calls, sides of 2049 refused: 0 differences"
+        ),
+        Err(text) => println!("{text}\nsession: a difference at the largest sides, and the run of these stopped there"),
+    }
+    ran.is_ok()
+}
+
+/// The largest sides and a count of lists; true where nothing differs. The reproduction printed is the shortest list of
+/// those that differ.
 pub fn run(count: usize, seed: u64) -> bool {
+    let largest = run_largest(seed);
     let mut tally = Tally::default();
     let mut found: Vec<String> = Vec::new();
     for i in 0..count {
         let random = &mut Random::new(seed ^ (i as u64) << 20);
-        let text = wrong_opening(random).or_else(|| wrong_list(random, i % KINDS.len(), &mut tally));
-        found.extend(text.map(|text| format!("list {i}: {text}")));
+        let ran = any_opening(random).and_then(|()| any_list(random, i % KINDS.len(), &mut tally));
+        found.extend(ran.err().map(|text| format!("list {i}: {text}")));
         if found.len() == 200 {
             break;
         }
@@ -229,5 +191,5 @@ pub fn run(count: usize, seed: u64) -> bool {
         tally.alone,
         found.len()
     );
-    found.is_empty()
+    largest && found.is_empty()
 }

@@ -1,0 +1,172 @@
+//! Times of a session's calls, beside one whole `scale` of the original on the same picture.
+
+use super::bench::{original_scale, picture, PICTURES};
+use super::times::{best, least, median, time, time_short, Form};
+use crate::panel;
+use std::hint::black_box;
+
+/// A square session whose calls are timed.
+struct Square {
+    side: usize,
+    /// Repetitions of the original, which stands below every ratio.
+    original: usize,
+    /// Repetitions of one refresh of everything.
+    everything: usize,
+    /// Refreshes that follow each other until nothing is stale: the blocks drawn by each, and repetitions of them all.
+    slices: [(u32, usize); 2],
+}
+
+/// At 1,024 a side 65,536 refreshes of 16 blocks are needed, and each counts all the marks: seconds, so they run once.
+const SQUARES: [Square; 2] = [
+    Square { side: 256, original: 20, everything: 20, slices: [(16, 8), (256, 8)] },
+    Square { side: 1024, original: 3, everything: 4, slices: [(16, 1), (256, 2)] },
+];
+
+/// Blocks of one slice; the slices of which the middle time is taken, those at the start of a session; the sessions of
+/// which the best is taken.
+const SLICE: u32 = 16;
+const FIRST_SLICES: usize = 64;
+const SESSIONS: usize = 8;
+
+struct Session {
+    header: [u32; 2],
+    picture: Vec<u32>,
+    output: Vec<u32>,
+    marks: Vec<u8>,
+}
+
+impl Session {
+    /// Everything is stale; every buffer has been written.
+    fn open(picture: &[u32], side: usize) -> Session {
+        let (mut output, mut marks) = (vec![1; 9 * side * side], vec![0; side * side]);
+        let opened = panel::open(side as u32, side as u32, picture, &mut output, &mut marks);
+        assert_eq!(opened.refusal, 0);
+        Session { header: opened.header, picture: picture.to_vec(), output, marks }
+    }
+
+    fn refresh(&mut self, n: u32) -> panel::Refreshed {
+        panel::refresh(self.header, &self.picture, &mut self.output, &mut self.marks, n)
+    }
+
+    fn refresh_all(&mut self) -> panel::Refreshed {
+        self.refresh(u32::MAX)
+    }
+
+    /// Refreshes of n blocks each, until nothing is stale.
+    fn refresh_by(&mut self, n: u32) {
+        while self.refresh(n).left != 0 {}
+    }
+
+    fn paint(&mut self, column: usize, row: usize, word: u32) -> panel::Painted {
+        panel::paint(self.header, &mut self.picture, &mut self.marks, column as u32, row as u32, word)
+    }
+}
+
+/// All marks in one byte: each is read once, as fast as the compiler can make it.
+#[inline(never)]
+fn read_marks(marks: &[u8]) -> u8 {
+    marks.iter().fold(0, |all, mark| all | mark)
+}
+
+/// One picture's rows.
+struct Bench<'a> {
+    form: Form,
+    square: &'a Square,
+    name: &'a str,
+    picture: Vec<u32>,
+    /// Nanoseconds of one whole `scale` of the original.
+    full: f64,
+}
+
+impl<'a> Bench<'a> {
+    fn new(form: Form, square: &'a Square, name: &'a str) -> Bench<'a> {
+        let picture = picture(name, square.side);
+        let once = |_| time(|| drop(black_box(original_scale(&picture, square.side))));
+        let full = least((0..square.original).map(once));
+        Bench { form, square, name, picture, full }
+    }
+
+    fn open(&self) -> Session {
+        Session::open(&self.picture, self.square.side)
+    }
+
+    fn line(&self, what: &str, ns: f64) -> String {
+        let (name, full) = (self.name, self.full);
+        format!(
+            "{name:<6} {what:<58} {:>10.1}   original whole {:>9.1}   ratio {:>8.5}",
+            ns / 1e3,
+            full / 1e3,
+            ns / full
+        )
+    }
+
+    fn say(&self, what: &str, ns: f64) {
+        let name = format!("session {} {}: {what}", self.square.side, self.name);
+        self.form.row(&self.line(what, ns), &name, ns / self.full, ns);
+    }
+
+    /// Everything is stale: one refresh of everything, one slice, and slices until nothing is stale.
+    fn drawing(&self) {
+        let drawn = |n: u32, repetitions: usize| {
+            least((0..repetitions).map(|_| {
+                let mut session = self.open();
+                time(|| session.refresh_by(n))
+            }))
+        };
+        self.say("first refresh of everything after opening", drawn(u32::MAX, self.square.everything));
+        let slice = least((0..SESSIONS).map(|_| {
+            let mut session = self.open();
+            median((0..FIRST_SLICES).map(|_| time(|| assert_eq!(session.refresh(SLICE).drawn, SLICE))))
+        }));
+        self.say(&format!("one refresh of {SLICE} blocks, everything stale"), slice);
+        for (n, repetitions) in self.square.slices {
+            self.say(&format!("refreshes of {n} blocks until none is stale"), drawn(n, repetitions));
+        }
+    }
+
+    /// Nothing is stale: a changed pixel, an equal word, and a refresh that finds nothing.
+    fn keeping(&self) {
+        let side = self.square.side;
+        let mut session = self.open();
+        assert_eq!(session.refresh_all().left, 0);
+        let changed = median((0..200).map(|i| {
+            let (column, row) = (20 + 37 * i % 200, 20 + 53 * i % 200);
+            let word = session.picture[row * side + column] ^ 0x00ff_ffff;
+            time(|| {
+                assert_eq!(session.paint(column, row, word).changed, 1);
+                assert_eq!(session.refresh_all().left, 0);
+            })
+        }));
+        self.say("one changed pixel: paint, and refresh until none is stale", changed);
+        self.equal_word(&mut session);
+        let nothing = least((0..20).map(|_| time_short(|| assert_eq!(session.refresh_all().drawn, 0))));
+        self.say("refresh with nothing stale", nothing);
+    }
+
+    fn equal_word(&self, session: &mut Session) {
+        let (word, marks) = (session.picture[100 * self.square.side + 100], session.marks.clone());
+        let (once, equal) = best(
+            20,
+            || time_short(|| assert_eq!(read_marks(black_box(&marks)), 0)),
+            || time_short(|| assert_eq!(session.paint(100, 100, word).changed, 0)),
+        );
+        self.form.note(&self.line("the marks read once, by plain Rust", once));
+        self.say("paint of an equal word, with its stale count", equal);
+        let name = self.name;
+        let times = format!("{name:<6} the paint of an equal word takes {:.2} times the marks read once", equal / once);
+        self.form.note(&times);
+    }
+}
+
+/// Prints the rows of every square and picture.
+pub fn run(form: Form) {
+    for square in &SQUARES {
+        let side = square.side;
+        form.note(&format!("a session of {side} by {side}: microseconds, beside one whole scale of the original"));
+        for name in PICTURES {
+            let bench = Bench::new(form, square, name);
+            bench.drawing();
+            bench.keeping();
+        }
+    }
+}

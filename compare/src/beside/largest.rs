@@ -1,0 +1,154 @@
+//! Sessions with sides of 2,048, the largest: painted at corners and in the middle, refreshed in slices and whole, beside
+//! the plain machine. Sides of 2,049 are refused, by the opening and by every call.
+//!
+//! The machine redraws whole where a refresh follows a changing paint, and the original takes seconds for 2,048 by 2,048.
+//! So paints stand together, and refreshes after them: two redraws. Answers are compared at every call, the buffers after
+//! each group of calls.
+
+use super::alone::{call_alone, opening, Buffers};
+use super::font;
+use super::lent::Lent;
+use super::machine::Call;
+use super::pair::Pair;
+use super::pictures::KINDS;
+use super::random::Random;
+use crate::panel;
+
+const LIMIT: usize = 2048;
+
+/// The corners, the middles of the sides and the middle.
+fn places(w: usize, h: usize) -> Vec<(u32, u32)> {
+    let along = |side: usize| {
+        let mut at = vec![0, side / 2, side - 1];
+        at.dedup();
+        at
+    };
+    let (columns, rows) = (along(w), along(h));
+    rows.iter().flat_map(|&y| columns.iter().map(move |&x| (x as u32, y as u32))).collect()
+}
+
+/// A list of calls on one session.
+struct List {
+    pair: Pair,
+    w: usize,
+    h: usize,
+    calls: usize,
+}
+
+impl List {
+    fn open(w: usize, h: usize, name: &str, first: &[u32], random: &mut Random) -> Result<List, String> {
+        let lengths = (w * h + 3, 9 * w * h + 5, w * h + 7);
+        let pair = Pair::open(format!("{w} by {h}, {name}"), (w, h), first, lengths, random)?;
+        Ok(List { pair, w, h, calls: 1 })
+    }
+
+    fn call(&mut self, call: Call) -> Result<(), String> {
+        self.calls += 1;
+        self.pair.call(call).map(|_| ())
+    }
+
+    /// The word at each place altered by a mask, then the first one painted again as it stands; two positions outside.
+    fn paints(&mut self, mask: u32) -> Result<(), String> {
+        for (column, row) in places(self.w, self.h) {
+            let word = self.pair.machine.picture[row as usize * self.w + column as usize] ^ mask;
+            self.call(Call::Paint { column, row, word })?;
+        }
+        let word = self.pair.machine.picture[0];
+        self.call(Call::Paint { column: 0, row: 0, word })?;
+        self.call(Call::Paint { column: self.w as u32, row: 0, word })?;
+        self.call(Call::Paint { column: 0, row: self.h as u32, word })?;
+        self.pair.same()
+    }
+
+    fn refreshes(&mut self, numbers: &[u32]) -> Result<(), String> {
+        numbers.iter().try_for_each(|&n| self.call(Call::Refresh { n }))?;
+        self.pair.same()
+    }
+
+    /// The block of each place, the one beside the last place's marked blocks, and two outside.
+    fn shows(&mut self) -> Result<(), String> {
+        let beside = (self.w.saturating_sub(8) as u32, self.h.saturating_sub(7) as u32);
+        let outside = [(self.w as u32, 0), (0, self.h as u32)];
+        let blocks = places(self.w, self.h).into_iter().chain([beside]).chain(outside);
+        blocks.into_iter().try_for_each(|(bx, by)| self.call(Call::Show { bx, by }))
+    }
+
+    /// Everything stale, nothing stale, some stale, nothing stale.
+    fn run(&mut self) -> Result<(), String> {
+        self.paints(0x00ff_ffff)?;
+        self.shows()?;
+        self.refreshes(&[0, 1, 16, 256, LIMIT as u32 - 1, LIMIT as u32 + 5, 70_001])?;
+        self.shows()?;
+        self.refreshes(&[u32::MAX, u32::MAX])?;
+        self.shows()?;
+        self.paints(0x0100_0000)?;
+        self.paints(0x0012_3456)?;
+        self.shows()?;
+        self.refreshes(&[0, 1, 16, 40, 100])?;
+        self.shows()?;
+        self.refreshes(&[16, 256, u32::MAX, 1])?;
+        self.shows()?;
+        self.whole()
+    }
+
+    /// With nothing stale, the output is what the library's whole enlargement of the last picture gives.
+    fn whole(&self) -> Result<(), String> {
+        let (w, h, n) = (self.w as u32, self.h as u32, self.w * self.h);
+        let (mut output, mut singles, mut bytes) = (vec![1; 9 * n], vec![1.0; 8 * n], vec![1; 8 * n]);
+        let refusal = panel::scale(w, h, &self.pair.machine.picture, &mut output, &mut singles, &mut bytes);
+        if refusal != 0 || output != self.pair.got.output.part()[..9 * n] {
+            return Err(format!("{w} by {h}: the last picture enlarged whole, refusal {refusal}, is not the output"));
+        }
+        Ok(())
+    }
+}
+
+/// A page of text whose top bytes are any: they are carried to the output, and tell where a word came from.
+fn page(random: &mut Random, side: usize) -> Vec<u32> {
+    font::page(side, side, 0, 0).into_iter().map(|word| word ^ (random.word() & 0xff00_0000)).collect()
+}
+
+/// Buffers for a number of blocks, each shorter by what is given.
+fn buffers(random: &mut Random, blocks: usize, [picture, output, marks]: [usize; 3]) -> Buffers {
+    Buffers {
+        picture: Lent::new(blocks - picture, random),
+        output: Lent::new(9 * blocks - output, random),
+        marks: Lent::new(blocks - marks, random),
+    }
+}
+
+/// Sides of 2,049, on buffers that are long enough for 2,049 blocks; sides of 2,048 on buffers one short.
+fn refused(random: &mut Random) -> Result<(), String> {
+    let (n, past) = (LIMIT as u32, LIMIT as u32 + 1);
+    for header in [[past, 1], [1, past], [past, 0], [0, past], [past, n], [n, past], [past, past]] {
+        opening(header, buffers(random, LIMIT + 1, [0; 3]))?;
+        let paint = Call::Paint { column: 0, row: 0, word: 1 };
+        for call in [paint, Call::Refresh { n: u32::MAX }, Call::Show { bx: 0, by: 0 }] {
+            call_alone(header, buffers(random, LIMIT + 1, [0; 3]), call)?;
+        }
+    }
+    for header in [[n, 1], [1, n]] {
+        for short in [[1, 0, 0], [0, 1, 0], [0, 0, 1], [1, 1, 1]] {
+            opening(header, buffers(random, LIMIT, short))?;
+        }
+    }
+    Ok(())
+}
+
+/// The calls made beside the machine, or the first difference.
+pub fn run(random: &mut Random) -> Result<usize, String> {
+    refused(random)?;
+    let mut calls = 0;
+    for (w, h) in [(LIMIT, 1), (1, LIMIT)] {
+        for kind in &KINDS {
+            let first = kind.picture(random, w, h);
+            let mut list = List::open(w, h, kind.name, &first, random)?;
+            list.run()?;
+            calls += list.calls;
+        }
+    }
+    let first = page(random, LIMIT);
+    let mut list = List::open(LIMIT, LIMIT, "a page", &first, random)?;
+    list.run()?;
+    Ok(calls + list.calls)
+}

@@ -1,0 +1,68 @@
+//! A session of the library and one of the plain machine, given the same calls.
+
+use super::alone::Buffers;
+use super::lent::Lent;
+use super::machine::{Answer, Call, Machine};
+use super::random::Random;
+use crate::panel;
+
+pub struct Pair {
+    pub header: [u32; 2],
+    /// The library's buffers.
+    pub got: Buffers,
+    /// The machine's state at the front, the rest as it was lent.
+    expected: Buffers,
+    pub machine: Machine,
+    /// What was done so far.
+    list: String,
+}
+
+impl Pair {
+    /// Opens both on a picture of w by h words, the library on buffers of any contents and of these lengths: picture,
+    /// output, marks. A difference, here as below, is a text that starts with the title and the calls so far.
+    pub fn open(
+        title: String,
+        (w, h): (usize, usize),
+        first: &[u32],
+        lengths: (usize, usize, usize),
+        random: &mut Random,
+    ) -> Result<Pair, String> {
+        let mut got = Buffers {
+            picture: Lent::with(first, lengths.0, random),
+            output: Lent::new(lengths.1, random),
+            marks: Lent::new(lengths.2, random),
+        };
+        let expected = got.clone();
+        let opened = panel::open(w as u32, h as u32, got.picture.part(), got.output.part_mut(), got.marks.part_mut());
+        let machine = Machine::open(w, h, first);
+        let should = panel::Opened { refusal: 0, header: [w as u32, h as u32], stale: machine.stale_count() };
+        if opened != should {
+            return Err(format!("{title}: opening answered {opened:?}, expected {should:?}"));
+        }
+        let mut pair = Pair { header: opened.header, got, expected, machine, list: title };
+        pair.same()?;
+        Ok(pair)
+    }
+
+    /// Makes a call of both; their answers are alike.
+    pub fn call(&mut self, call: Call) -> Result<Answer, String> {
+        self.list += &format!("\n  {call:?}");
+        let (said, should) = (self.got.call(self.header, call), self.machine.call(call));
+        if said != Ok(should) {
+            return Err(format!("{}: answered {said:?}, expected {should:?}", self.list));
+        }
+        Ok(should)
+    }
+
+    /// Every element of every buffer is as the machine has it, or as it was lent.
+    pub fn same(&mut self) -> Result<(), String> {
+        self.expected.picture.put(&self.machine.picture);
+        self.expected.output.put(&self.machine.output);
+        let marks: Vec<u8> = self.machine.stale.iter().map(|&stale| u8::from(stale)).collect();
+        self.expected.marks.put(&marks);
+        match self.got.difference(&self.expected) {
+            Some(text) => Err(format!("{}: afterwards {text}", self.list)),
+            None => Ok(()),
+        }
+    }
+}
