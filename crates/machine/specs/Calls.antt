@@ -74,8 +74,7 @@ module _ (side words w h : ℕ) where
 abbrev pub refusalPaint : ℕ → ℕ → ℕ → ℕ → ℕ → ℕ → ℕ → ℕ
 refusalPaint side w h p m column row =
     cond (sideLong side w h) refusal.side
-    (cond (ltb p (w * h)) refusal.picture
-    (cond (ltb m (w * h)) refusal.scratch
+    (cond (ltb p (w * h)) refusal.picture (cond (ltb m (w * h)) refusal.scratch
     (cond (inside w h column row) refusal.none refusal.outside)))
 
 module _ (S : Screen) (w h : ℕ) where
