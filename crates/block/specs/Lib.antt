@@ -3,3 +3,5 @@ pub mod Locality
 pub mod Window
 pub mod Passes
 pub mod Table
+pub mod Store
+pub mod StoreLaws

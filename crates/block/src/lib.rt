@@ -19,6 +19,8 @@ ghost use Rattle.junction.specs.Junction.{junctions};
 ghost use Rattle.block.specs.Block.{tagWord, blockFrom};
 ghost use Rattle.block.specs.Window.{Tile, ringOf, Rooms, Passed, TileTagged, wordsByTag};
 
+pub mod store;
+
 // The most columns and rows of a tile.
 pub const COLUMNS: u32 = 16;
 

@@ -1,17 +1,14 @@
--- Sizes that fit, and the whole picture as a rectangle. Assumes nothing.
+-- Sizes that fit, and what a call leaves by its answer. Assumes nothing.
 use mathlib.Core.Path.{_≡_, refl, sym, _∙_, ap}
 use mathlib.Core.Bool.{Bool, true, false, cond, _||_}
 use mathlib.Core.List.{List}
-use Prim.Native.Nat.{ℕ, suc, _+_, _-_, _*_, _^_, _≤_, _<_}
-use native.Mathlib.Nat.{mul-le-mul, mul-assoc, mul-comm, mul-left-comm}
+use Prim.Native.Nat.{ℕ, suc, _-_, _*_, _^_, _≤_, _<_}
+use native.Mathlib.Nat.{mul-le-mul, mul-assoc, mul-left-comm}
 use native.Mathlib.Omega.{arith}
 use lib.Dec.{ltb, eqb}
 use borrow.Author.Tests.{ltb-false, le-ltb, eqb-true}
 use lib.ListN.{length, take, drop, length-drop}
 use lib.Seq.{take-all}
-use Rattle.field.specs.Room.{Feeds}
-use Rattle.block.specs.Window.{Rooms}
-use Rattle.whole.specs.Laws.{gridOf}
 use Rattle.picture.specs.Fill.{put}
 use Rattle.whole.specs.Calls.{refusalOf, filled}
 use Rattle.whole.specs.Passes.{wordsWithin}
@@ -45,36 +42,9 @@ within-small side w h n l e = go (ltb side w || ltb side h) refl e
         let m : w * h ≤ 2048 * 2048 = mul-le-mul x y in
         omega arith
 
-pub cut-room : (w h n : ℕ) → 8 * (w * h) ≤ n → h * (w * 4) + h * (w * 4) ≤ n
-cut-room w h n l = omega (arith, mul-assoc h w 4, mul-comm h w)
-
-whole-feeds : (a w h : ℕ) → Feeds a a (gridOf w h) w h (gridOf w h)
-whole-feeds a w h = record { columns = omega arith; lines = omega arith; left = omega arith; right = omega arith; above = omega arith; below = omega arith }
-
--- the whole picture is a rectangle that holds what each pass reads
-pub whole-rooms : (w h p s b : ℕ) → w * h ≤ p → 8 * (w * h) ≤ s → 8 * (w * h) ≤ b
-    → Rooms w h (gridOf w h) (gridOf w h) (gridOf w h) (gridOf w h) (h * (w * 4)) (h * (w * 4)) p s b
-whole-rooms w h p s b hp hs hb = record {
-  picture = hp;
-  metrics-on = record { columns = omega arith; lines = omega arith };
-  to-weights = whole-feeds 1 w h;
-  to-junctions = whole-feeds 1 w h;
-  over-junctions = whole-feeds 1 w h;
-  to-tags = whole-feeds 3 w h;
-  metrics-room = omega arith;
-  weights-room = cut-room w h s hs;
-  junctions-room = omega arith;
-  tags-room = cut-room w h b hb;
-}
-
+-- the rest of a list from the cut on, as a part of a slice has it
 pub whole-rest : {E : Type 0} (cut : ℕ) (l : List E) → take (length l - cut) (drop cut l) ≡ drop cut l
 whole-rest cut l = take-all (length l - cut) (drop cut l) (omega (arith, length-drop cut l))
-
-pub rest-long : {E : Type 0} (cut n : ℕ) (l : List E) → cut + n ≤ length l → n ≤ length (take (length l - cut) (drop cut l))
-rest-long cut n l h = rw (whole-rest cut l) (omega (arith, length-drop cut l))
-
-pub out-room : (w h n : ℕ) → 9 * (w * h) ≤ n → h * (9 * w) ≤ n
-out-room w h n l = omega (arith, mul-left-comm h 9 w, mul-comm h w)
 
 -- a call that was not refused: the conditions hold
 pub record Accepted (side w h n o m s picture output middle singles bytes : ℕ) : Type 0 where

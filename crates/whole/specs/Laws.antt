@@ -1,94 +1,44 @@
 -- Laws of section 8's definitions: lengths, where a block's words stand, and how the code's stores add up to them. Assumes nothing.
 use mathlib.Core.Path.{_≡_, refl, sym, _∙_, ap}
-use mathlib.Core.List.{List, [], _∷_, _++_}
-use Prim.Native.Nat.{ℕ, zero, suc, _+_, _-_, _*_, _≤_, _<_}
-use native.Mathlib.Nat.{mul-assoc, mul-comm, mul-left-comm, add-mul, suc-mul}
-use native.Mathlib.Numerals.{add-one}
+use mathlib.Core.List.{List, [], _++_}
+use Prim.Native.Nat.{ℕ, zero, suc, _+_, _*_, _≤_, _<_}
+use native.Mathlib.Nat.{mul-assoc, mul-comm, mul-left-comm, add-mul, suc-mul, add-zero}
 use native.Mathlib.Omega.{arith}
-use lib.ListN.{length, getD, drop, length-append}
-use lib.Seq.{getD-take, getD-drop}
+use lib.ListN.{length, getD, length-append}
 use Rattle.picture.specs.Fill.{flat, put, put-put, put-comm, put-nil, length-put, length-flat, getD-flat, getD-flat-below, within}
-use Rattle.field.specs.declared.grid.Grid.{Grid}
-use Rattle.field.specs.Grid.{ofMetric, ofWeights, ofJunctions, ofTags, tagsAt}
+use Rattle.field.specs.Grid.{ofMetric, ofWeights, ofJunctions, ofTags}
 use Rattle.metric.specs.Metric.{metrics}
 use Rattle.metric.specs.Weight.{weights}
-use Rattle.block.specs.Block.{pictureJunctions, pictureTags, blockFrom, blockOf}
-use Rattle.whole.specs.Whole.{allOf, third, rowsOf, scaleOf, singlesOf, bytesOf}
+use Rattle.block.specs.Block.{pictureJunctions, pictureTags, blockOf}
+use Rattle.block.specs.Store.{third, putBlock, putRow, putRect}
+use Rattle.whole.specs.Whole.{allOf, rowsOf, scaleOf, singlesOf, bytesOf}
 
--- the picture as one rectangle
-abbrev pub gridOf : ℕ → ℕ → Grid
-gridOf w h = record { x0 = 0; y0 = 0; cols = w; rows = h }
+-- ---- blocks stored one after the other are the strips of words that their rows are
 
--- ---- a block's nine words stored, three at a time, in an output of rows of ow words
-
-unfoldable pub putBlock : ℕ → ℕ → List ℕ → List ℕ → List ℕ
-putBlock ow at b l = put (at + 2 * ow) (getD b 6 0 ∷ getD b 7 0 ∷ getD b 8 0 ∷ [])
-    (put (at + ow) (getD b 3 0 ∷ getD b 4 0 ∷ getD b 5 0 ∷ []) (put at (getD b 0 0 ∷ getD b 1 0 ∷ getD b 2 0 ∷ []) l))
-
--- the block of (x, y) by the tags that a list holds from `from` on
-abbrev pub taggedBlock : ℕ → ℕ → (ℕ → ℕ → ℕ) → List ℕ → ℕ → ℕ → ℕ → List ℕ
-taggedBlock w h f tags from y x = blockFrom w h f x y (tagsAt tags (from + x * 4))
-
--- a block has three words in each row, and they are its words 0 to 2, 3 to 5 and 6 to 8
-module _ (w h : ℕ) (f : ℕ → ℕ → ℕ) (tags : List ℕ) (from y : ℕ) where
-  pub three-words : (r x : ℕ) → r < 3 → length (third r (taggedBlock w h f tags from y x)) ≡ 3
-  unfolding blockFrom
-  three-words zero x h = refl
-  three-words (suc zero) x h = refl
-  three-words (suc (suc zero)) x h = refl
-  three-words (suc (suc (suc r))) x h = absurd (omega arith)
-
-  pub word-lists : (x : ℕ) (b : List ℕ) → b ≡ taggedBlock w h f tags from y x
-      → (getD b 0 0 ∷ getD b 1 0 ∷ getD b 2 0 ∷ [] ≡ third 0 (taggedBlock w h f tags from y x))
-      × (getD b 3 0 ∷ getD b 4 0 ∷ getD b 5 0 ∷ [] ≡ third 1 (taggedBlock w h f tags from y x))
-      × (getD b 6 0 ∷ getD b 7 0 ∷ getD b 8 0 ∷ [] ≡ third 2 (taggedBlock w h f tags from y x))
-  unfolding blockFrom
-  word-lists x b e = (
-    ap (λ (l : List ℕ). getD l 0 0 ∷ getD l 1 0 ∷ getD l 2 0 ∷ []) e,
-    ap (λ (l : List ℕ). getD l 3 0 ∷ getD l 4 0 ∷ getD l 5 0 ∷ []) e,
-    ap (λ (l : List ℕ). getD l 6 0 ∷ getD l 7 0 ∷ getD l 8 0 ∷ []) e,
-  )
-
--- n blocks stand side by side from `at` on, and the rest is as it was
-pub record Blocks (ow at n : ℕ) (blocks : ℕ → List ℕ) (l₀ l : List ℕ) : Type 0 where
-  pub is : l ≡ put (at + 2 * ow) (flat n (λ x. third 2 (blocks x))) (put (at + ow) (flat n (λ x. third 1 (blocks x))) (put at (flat n (λ x. third 0 (blocks x))) l₀))
-  pub long : length l ≡ length l₀
-
-module _ (ow at : ℕ) (blocks : ℕ → List ℕ) (three : (r x : ℕ) → r < 3 → length (third r (blocks x)) ≡ 3) (l₀ : List ℕ) where
+module _ (ow at : ℕ) (blocks : ℕ → List ℕ) (l₀ : List ℕ) (room : at + 3 * ow ≤ length l₀) where
   -- row r of the first n blocks
   abbrev strip : ℕ → ℕ → List ℕ
   strip r n = flat n (λ x. third r (blocks x))
 
-  strip-length : (r n : ℕ) → r < 3 → length (strip r n) ≡ n * 3
-  strip-length r n h = length-flat 3 (λ x. third r (blocks x)) (λ x. three r x h) n
+  strip-length : (r n : ℕ) → length (strip r n) ≡ n * 3
+  strip-length r n = length-flat 3 (λ x. third r (blocks x)) (λ x. refl) n
 
-  pub blocks-none : at + 3 * ow ≤ length l₀ → Blocks ow at 0 blocks l₀ l₀
-  blocks-none h = record {
-    is = sym (ap (λ (l : List ℕ). put (at + 2 * ow) [] (put (at + ow) [] l)) (put-nil at l₀ (omega arith))
-        ∙ ap (λ (l : List ℕ). put (at + 2 * ow) [] l) (put-nil (at + ow) l₀ (omega arith)) ∙ put-nil (at + 2 * ow) l₀ (omega arith));
-    long = refl;
-  }
-
-  module _ (n : ℕ) (room : at + 3 * ow ≤ length l₀) (more : n * 3 + 3 ≤ ow) where
-    len : (r : ℕ) → r < 3 → length (strip r n) ≡ n * 3
-    len r h = strip-length r n h
-
+  module _ (n : ℕ) (more : n * 3 + 3 ≤ ow) where
     y₁ : List ℕ
     y₁ = put at (strip 0 n) l₀
 
     y₁-long : length y₁ ≡ length l₀
     unfolding y₁
-    y₁-long = length-put at (strip 0 n) l₀ (omega (arith, len 0 (omega arith)))
+    y₁-long = length-put at (strip 0 n) l₀ (omega (arith, strip-length 0 n))
 
     -- the next piece of the first strip goes below the other two
     first : put (at + n * 3) (third 0 (blocks n)) (put (at + 2 * ow) (strip 2 n) (put (at + ow) (strip 1 n) y₁))
         ≡ put (at + 2 * ow) (strip 2 n) (put (at + ow) (strip 1 n) (put at (strip 0 (suc n)) l₀))
     unfolding y₁
     first =
-        let a = three 0 n (omega arith) in
-        let e0 = len 0 (omega arith) in
-        let e1 = len 1 (omega arith) in
-        let e2 = len 2 (omega arith) in
+        let e0 = strip-length 0 n in
+        let e1 = strip-length 1 n in
+        let e2 = strip-length 2 n in
         let m = y₁-long in
         let k = length-put (at + ow) (strip 1 n) y₁ (omega arith) in
         put-comm (at + n * 3) (at + 2 * ow) (third 0 (blocks n)) (strip 2 n) (put (at + ow) (strip 1 n) y₁) (omega arith) (omega arith)
@@ -101,14 +51,13 @@ module _ (ow at : ℕ) (blocks : ℕ → List ℕ) (three : (r x : ℕ) → r < 
 
     y₂-long : length y₂ ≡ length l₀
     unfolding y₂
-    y₂-long = length-put at (strip 0 (suc n)) l₀ (omega (arith, strip-length 0 (suc n) (omega arith), suc-mul n 3))
+    y₂-long = length-put at (strip 0 (suc n)) l₀ (omega (arith, strip-length 0 (suc n), suc-mul n 3))
 
     second : put (at + ow + n * 3) (third 1 (blocks n)) (put (at + 2 * ow) (strip 2 n) (put (at + ow) (strip 1 n) y₂))
         ≡ put (at + 2 * ow) (strip 2 n) (put (at + ow) (strip 1 (suc n)) y₂)
     second =
-        let a = three 1 n (omega arith) in
-        let e1 = len 1 (omega arith) in
-        let e2 = len 2 (omega arith) in
+        let e1 = strip-length 1 n in
+        let e2 = strip-length 2 n in
         let m = y₂-long in
         let k = length-put (at + ow) (strip 1 n) y₂ (omega arith) in
         put-comm (at + ow + n * 3) (at + 2 * ow) (third 1 (blocks n)) (strip 2 n) (put (at + ow) (strip 1 n) y₂) (omega arith) (omega arith)
@@ -120,59 +69,73 @@ module _ (ow at : ℕ) (blocks : ℕ → List ℕ) (three : (r x : ℕ) → r < 
 
     y₃-long : length y₃ ≡ length l₀
     unfolding y₃
-    y₃-long = length-put (at + ow) (strip 1 (suc n)) y₂ (omega (arith, strip-length 1 (suc n) (omega arith), suc-mul n 3, y₂-long)) ∙ y₂-long
+    y₃-long = length-put (at + ow) (strip 1 (suc n)) y₂ (omega (arith, strip-length 1 (suc n), suc-mul n 3, y₂-long)) ∙ y₂-long
 
     third-put : put (at + 2 * ow + n * 3) (third 2 (blocks n)) (put (at + 2 * ow) (strip 2 n) y₃) ≡ put (at + 2 * ow) (strip 2 (suc n)) y₃
     third-put =
-        let a = three 2 n (omega arith) in
-        let e2 = len 2 (omega arith) in
+        let e2 = strip-length 2 n in
         let m = y₃-long in
         ap (λ (i : ℕ). put (at + 2 * ow + i) (third 2 (blocks n)) (put (at + 2 * ow) (strip 2 n) y₃)) (sym e2)
         ∙ put-put (at + 2 * ow) (strip 2 n) (third 2 (blocks n)) y₃ (omega arith)
 
-    -- one more block, whose first word stands at o
-    pub blocks-more : (l l′ b : List ℕ) (o : ℕ) → Blocks ow at n blocks l₀ l → o ≡ at + n * 3
-        → getD b 0 0 ∷ getD b 1 0 ∷ getD b 2 0 ∷ [] ≡ third 0 (blocks n) → getD b 3 0 ∷ getD b 4 0 ∷ getD b 5 0 ∷ [] ≡ third 1 (blocks n)
-        → getD b 6 0 ∷ getD b 7 0 ∷ getD b 8 0 ∷ [] ≡ third 2 (blocks n) → l′ ≡ putBlock ow o b l → Blocks ow at (n + 1) blocks l₀ l′
+    -- one more block
+    strips-more : putBlock ow (at + n * 3) (blocks n) (put (at + 2 * ow) (strip 2 n) (put (at + ow) (strip 1 n) y₁))
+        ≡ put (at + 2 * ow) (strip 2 (suc n)) y₃
     unfolding putBlock y₁ y₂ y₃
-    blocks-more l l′ b o f eo b0 b1 b2 e =
-        let i1 : o + ow ≡ at + ow + n * 3 = omega arith in
-        let i2 : o + 2 * ow ≡ at + 2 * ow + n * 3 = omega arith in
-        let z : l′ ≡ put (at + 2 * ow) (strip 2 (suc n)) y₃ =
-        e
-        ∙ ap (λ (m : List ℕ). put (o + 2 * ow) (getD b 6 0 ∷ getD b 7 0 ∷ getD b 8 0 ∷ [])
-        (put (o + ow) (getD b 3 0 ∷ getD b 4 0 ∷ getD b 5 0 ∷ []) (put o (getD b 0 0 ∷ getD b 1 0 ∷ getD b 2 0 ∷ []) m))) (f .is)
-        ∙ rw (i2, i1, eo, b2, b1, b0, first, second, third-put) in
-        record {
-          is = z ∙ ap (λ (m : ℕ). put (at + 2 * ow) (strip 2 m) (put (at + ow) (strip 1 m) (put at (strip 0 m) l₀))) (sym (add-one n));
-          long = ap length z ∙ length-put (at + 2 * ow) (strip 2 (suc n)) y₃ (omega (arith, strip-length 2 (suc n) (omega arith), suc-mul n 3, y₃-long)) ∙ y₃-long;
-        }
+    strips-more =
+        let i1 : at + n * 3 + ow ≡ at + ow + n * 3 = omega arith in
+        let i2 : at + n * 3 + 2 * ow ≡ at + 2 * ow + n * 3 = omega arith in
+        rw (i2, i1, first, second, third-put)
+
+  row-strips : (n : ℕ) → n * 3 ≤ ow
+      → putRow ow at n blocks l₀ ≡ put (at + 2 * ow) (strip 2 n) (put (at + ow) (strip 1 n) (put at (strip 0 n) l₀))
+  unfolding putRow y₁ y₂ y₃
+  row-strips zero few =
+      sym (ap (λ (l : List ℕ). put (at + 2 * ow) [] (put (at + ow) [] l)) (put-nil at l₀ (omega arith))
+      ∙ ap (λ (l : List ℕ). put (at + 2 * ow) [] l) (put-nil (at + ow) l₀ (omega arith)) ∙ put-nil (at + 2 * ow) l₀ (omega arith))
+  row-strips (suc n) few = ap (putBlock ow (at + n * 3) (blocks n)) (row-strips n (omega arith)) ∙ strips-more n (omega arith)
 
   -- where the strips are as long as an output row, they are three rows of it
-  pub blocks-done : (l : List ℕ) (n w : ℕ) → Blocks ow at n blocks l₀ l → n ≡ w → ow ≡ 3 * w → at + 3 * ow ≤ length l₀ → l ≡ put at (rowsOf w blocks) l₀
+  row-filled : (w : ℕ) → ow ≡ 3 * w → putRow ow at w blocks l₀ ≡ put at (rowsOf w blocks) l₀
   unfolding rowsOf
-  blocks-done l n w f en ew room =
-      let e0 = strip-length 0 w (omega arith) in
-      let e1 = strip-length 1 w (omega arith) in
-      let e2 = strip-length 2 w (omega arith) in
+  row-filled w ew =
+      let e0 = strip-length 0 w in
+      let e1 = strip-length 1 w in
+      let e2 = strip-length 2 w in
       let i1 : at + ow ≡ at + length (strip 0 w) = omega arith in
       let i2 : at + 2 * ow ≡ at + length (strip 0 w ++ strip 1 w) = omega (arith, length-append (strip 0 w) (strip 1 w)) in
-      f .is
-      ∙ ap (λ (m : ℕ). put (at + 2 * ow) (strip 2 m) (put (at + ow) (strip 1 m) (put at (strip 0 m) l₀))) en
+      row-strips w (omega arith)
       ∙ ap (λ (i : ℕ). put (at + 2 * ow) (strip 2 w) (put i (strip 1 w) (put at (strip 0 w) l₀))) i1
       ∙ ap (put (at + 2 * ow) (strip 2 w)) (put-put at (strip 0 w) (strip 1 w) l₀ (omega arith))
       ∙ ap (λ (i : ℕ). put i (strip 2 w) (put at (strip 0 w ++ strip 1 w) l₀)) i2
       ∙ put-put at (strip 0 w ++ strip 1 w) (strip 2 w) l₀ (omega (arith, length-append (strip 0 w) (strip 1 w)))
 
 -- a row of blocks is nine times as long as the picture's row
-pub rows-length : (w : ℕ) (blocks : ℕ → List ℕ) → ((r x : ℕ) → r < 3 → length (third r (blocks x)) ≡ 3) → length (rowsOf w blocks) ≡ 9 * w
+rows-length : (w : ℕ) (blocks : ℕ → List ℕ) → length (rowsOf w blocks) ≡ 9 * w
 unfolding rowsOf
-rows-length w blocks three =
-    let e : (r : ℕ) → r < 3 → length (flat w (λ x. third r (blocks x))) ≡ w * 3 = λ r h. length-flat 3 (λ x. third r (blocks x)) (λ x. three r x h) w in
+rows-length w blocks =
+    let e : (r : ℕ) → length (flat w (λ x. third r (blocks x))) ≡ w * 3 = λ r. length-flat 3 (λ x. third r (blocks x)) (λ x. refl) w in
     let a = flat w (λ x. third 0 (blocks x)) in
     let b = flat w (λ x. third 1 (blocks x)) in
     let c = flat w (λ x. third 2 (blocks x)) in
-    omega (arith, length-append (a ++ b) c, length-append a b, e 0 (omega arith), e 1 (omega arith), e 2 (omega arith))
+    omega (arith, length-append (a ++ b) c, length-append a b, e 0, e 1, e 2)
+
+-- n rows of blocks, each as wide as the output, fill its front
+pub rect-filled : (w n : ℕ) (blocks : ℕ → ℕ → List ℕ) (l : List ℕ) → n * (9 * w) ≤ length l
+    → putRect (3 * w) 0 w n blocks l ≡ put 0 (flat n (λ y. rowsOf w (λ x. blocks x y))) l
+unfolding putRect
+rect-filled w zero blocks l room = sym (put-nil 0 l (omega arith))
+rect-filled w (suc n) blocks l room =
+    let rows : ℕ → List ℕ = λ y. rowsOf w (λ x. blocks x y) in
+    let at = 0 + n * (3 * (3 * w)) in
+    let e = length-flat (9 * w) rows (λ y. rows-length w (λ x. blocks x y)) n in
+    let r = rows-length w (λ x. blocks x n) in
+    let i : at ≡ 0 + length (flat n rows) = omega arith in
+    let long = length-put 0 (flat n rows) l (omega (arith, suc-mul n (9 * w))) in
+    ap (putRow (3 * w) at w (λ x. blocks x n)) (rect-filled w n blocks l (omega (arith, suc-mul n (9 * w))))
+    ∙ row-filled (3 * w) at (λ x. blocks x n) (put 0 (flat n rows) l) (omega (arith, suc-mul n (9 * w))) w refl
+    ∙ ap (λ (a : ℕ). put a (rows n) (put 0 (flat n rows) l)) i
+    ∙ put-put 0 (flat n rows) (rows n) l (omega (arith, suc-mul n (9 * w)))
 
 -- ---- how long the lists are, and where a block's words stand
 
@@ -180,21 +143,21 @@ pub all-length : {R E : Type 0} (elements : R → List E) → ((r : R) → lengt
 unfolding allOf
 all-length elements four w h f = length-flat (w * 4) (λ y. flat w (λ x. elements (f x y))) (λ y. length-flat 4 (λ x. elements (f x y)) (λ x. four (f x y)) w) h
 
+-- a word of a block's row
+third-word : (r c : ℕ) (b : List ℕ) → c < 3 → getD (third r b) c 0 ≡ getD b (3 * r + c) 0
+third-word r zero b h = ap (λ (n : ℕ). getD b n 0) (sym (add-zero (3 * r)))
+third-word r (suc zero) b h = refl
+third-word r (suc (suc zero)) b h = refl
+third-word r (suc (suc (suc c))) b h = absurd (omega arith)
+
 places : (by r w : ℕ) → (3 * by + r) * (3 * w) ≡ by * (9 * w) + r * (w * 3)
 places by r w = simp (add-mul, mul-assoc, mul-left-comm, mul-comm) (omega arith)
 
 module _ (w h : ℕ) (f : ℕ → ℕ → ℕ) where
-  three-of : (y r x : ℕ) → r < 3 → length (third r (blockOf w h f x y)) ≡ 3
-  unfolding blockOf blockFrom
-  three-of y zero x l = refl
-  three-of y (suc zero) x l = refl
-  three-of y (suc (suc zero)) x l = refl
-  three-of y (suc (suc (suc r))) x l = absurd (omega arith)
-
   pub scale-length : length (scaleOf w h f) ≡ 9 * (w * h)
   unfolding scaleOf
   scale-length =
-      length-flat (9 * w) (λ y. rowsOf w (λ x. blockOf w h f x y)) (λ y. rows-length w (λ x. blockOf w h f x y) (three-of y)) h
+      length-flat (9 * w) (λ y. rowsOf w (λ x. blockOf w h f x y)) (λ y. rows-length w (λ x. blockOf w h f x y)) h
       ∙ omega (arith, mul-comm h (9 * w), mul-assoc 9 w h)
 
   pub singles-length : length (singlesOf w h f) ≡ 8 * (w * h)
@@ -215,9 +178,9 @@ module _ (w h : ℕ) (f : ℕ → ℕ → ℕ) where
   in-rows : (bx by r c : ℕ) → bx < w → r < 3 → c < 3 → getD (rowsOf w (λ x. blockOf w h f x by)) (r * (w * 3) + (bx * 3 + c)) 0 ≡ getD (third r (blockOf w h f bx by)) c 0
   unfolding rowsOf
   in-rows bx by r c hx hr hc =
-      getD-flat-below (w * 3) (λ q. flat w (λ x. third q (blockOf w h f x by))) 3 (λ q k. length-flat 3 (λ x. third q (blockOf w h f x by)) (λ x. three-of by q x k) w) r
+      getD-flat-below (w * 3) (λ q. flat w (λ x. third q (blockOf w h f x by))) 3 (λ q k. length-flat 3 (λ x. third q (blockOf w h f x by)) (λ x. refl) w) r
       (bx * 3 + c) 0 hr (within bx w c 3 hx hc)
-      ∙ getD-flat 3 (λ x. third r (blockOf w h f x by)) (λ x. three-of by r x hr) w bx c 0 hx hc
+      ∙ getD-flat 3 (λ x. third r (blockOf w h f x by)) (λ x. refl) w bx c 0 hx hc
 
   -- word c of row r of block (bx, by) stands in output row 3 by + r, column 3 bx + c: the output's block is section 6's block
   pub scale-block : (bx by r c : ℕ) → bx < w → by < h → r < 3 → c < 3
@@ -228,7 +191,6 @@ module _ (w h : ℕ) (f : ℕ → ℕ → ℕ) where
       omega (arith, places by r w) in
       let inner : r * (w * 3) + (bx * 3 + c) < 9 * w = omega (arith, within r 3 (bx * 3 + c) (w * 3) hr (within bx w c 3 hx hc)) in
       ap (λ (i : ℕ). getD (scaleOf w h f) i 0) place
-      ∙ getD-flat (9 * w) (λ y. rowsOf w (λ x. blockOf w h f x y)) (λ y. rows-length w (λ x. blockOf w h f x y) (three-of y)) h by (r * (w * 3) + (bx * 3 + c)) 0 hy inner
+      ∙ getD-flat (9 * w) (λ y. rowsOf w (λ x. blockOf w h f x y)) (λ y. rows-length w (λ x. blockOf w h f x y)) h by (r * (w * 3) + (bx * 3 + c)) 0 hy inner
       ∙ in-rows bx by r c hx hr hc
-      ∙ getD-take 3 (drop (3 * r) (blockOf w h f bx by)) c 0 hc
-      ∙ getD-drop (3 * r) (blockOf w h f bx by) c 0
+      ∙ third-word r c (blockOf w h f bx by) hc

@@ -1,23 +1,19 @@
 -- Section 8: a whole picture enlarged, and the records of its passes, in row order. Definitions only.
 use mathlib.Core.List.{List, _++_}
-use Prim.Native.Nat.{ℕ, _+_, _*_}
+use Prim.Native.Nat.{ℕ}
 use lib.Ieee.{Float}
-use lib.ListN.{take, drop}
 use Rattle.picture.specs.Fill.{flat}
 use Rattle.metric.specs.Metric.{metrics}
 use Rattle.metric.specs.Weight.{weights}
 use Rattle.field.specs.Grid.{ofMetric, ofWeights, ofJunctions, ofTags}
 use Rattle.block.specs.Block.{pictureJunctions, pictureTags, blockOf}
+use Rattle.block.specs.Store.{third}
 
 -- the records of all pixels, row by row
 unfoldable pub allOf : {R E : Type 0} → (R → List E) → ℕ → ℕ → (ℕ → ℕ → R) → List E
 allOf elements w h f = flat h (λ y. flat w (λ x. elements (f x y)))
 
--- row r of a block
-abbrev pub third : ℕ → List ℕ → List ℕ
-third r block = take 3 (drop (3 * r) block)
-
--- the three output rows of a row of blocks
+-- the three output rows of a row of blocks: row r of each block, side by side
 unfoldable pub rowsOf : ℕ → (ℕ → List ℕ) → List ℕ
 rowsOf w blocks = flat 3 (λ r. flat w (λ x. third r (blocks x)))
 

@@ -1,18 +1,12 @@
 // Whole pictures: three-times and nine-times, into buffers that the caller lends.
-use assemble::assemble_3x;
 use block::passes;
+use block::store::put_rect;
 use field::grid::Grid;
 ghost use mathlib.Core.Path.{_≡_};
-ghost use Prim.Native.Nat.{ℕ, _+_, _-_, _*_, _<_, _≤_};
-ghost use lib.ListN.{length, drop};
-ghost use Rattle.picture.specs.Picture.{words};
-ghost use Rattle.picture.specs.Fill.{put, flat};
-ghost use Rattle.whole.specs.Whole.{rowsOf};
+ghost use Prim.Native.Nat.{_≤_};
+ghost use lib.ListN.{length};
 ghost use Rattle.whole.specs.Calls.{refusalOf, Scales, Scales9};
-ghost use Rattle.whole.specs.Laws.{gridOf, taggedBlock};
 ghost use Rattle.whole.specs.Passes.{Fits, Enlarged, wordsWithin};
-
-pub mod assemble;
 
 // The largest side of a picture that is enlarged three times, and nine times.
 pub const SIDE3: u32 = 2048;
@@ -63,16 +57,6 @@ fn words_of(side: u32, w: u32, h: u32) -> usize
     (w as usize) * (h as usize)
 }
 
-// The blocks of the whole picture, from its tags from `cut` on.
-fn blocks_whole(picture: &[u32], w: u32, h: u32, bytes: &[u8], cut: usize, output: &mut [u32])
-    requires { ⌜ (cut ≡ h * (w * 4)) × ((cut + cut ≤ length (now bytes)) × (h * (9 * w) ≤ length (now output))) ⌝ }
-    ensures { λ _. ⌜ now (output .exit) ≡ put 0 (flat h (λ y. rowsOf w
-        (taggedBlock w h (words w (now (picture .entry))) (drop cut (now (bytes .entry))) (y * (w * 4)) y))) (now (output .entry)) ⌝ }
-{
-    let t = &bytes[cut..];
-    assemble_3x(picture, w, h, t, output);
-}
-
 // The five passes over a whole picture whose buffers are long enough.
 fn enlarge(
     w: u32,
@@ -94,7 +78,8 @@ fn enlarge(
     };
     let cut = (h as usize) * ((w as usize) * 4);
     passes(picture, w, h, g, g, g, g, singles, cut, bytes, cut);
-    blocks_whole(picture, w, h, bytes, cut, output);
+    let tags = &bytes[cut..];
+    put_rect(picture, w, h, 0, 0, w, h, tags, output, 3 * (w as usize), 0);
 }
 
 // ScaleFX three-times. The answer is 0, or the number of the refusal, which leaves every buffer as it was.

@@ -1,10 +1,7 @@
 -- `whole::enlarge` meets its contract: `Passes` says what the passes and the blocks leave. Assumes nothing.
-use native.Mathlib.Omega.{arith}
-use mathlib.Core.Path.{refl}
 use Prim.Native.Nat.{_*_}
-use Rattle.picture.specs.Picture.{words}
-use Rattle.whole.specs.Passes.{output-right, singles-right, bytes-right}
-use Rattle.whole.proofs.Sizes.{whole-rooms, cut-room, out-room}
+use Rattle.whole.specs.Passes.{enlarged}
+use Rattle.whole.proofs.Sizes.{whole-rest}
 use borrow.Author.Needs.{needs}
 use Rattle.whole.proofs.enlarge.Statement.{statement}
 use Rattle.whole.proofs.enlarge.Tie as tie
@@ -16,15 +13,22 @@ mul-cut-2 : tie.Need-mul-cut-2
 mul-cut-2 c = search needs
 
 passes-requires : tie.Need-passes-requires
-passes-requires c κs =
-    let p = c .before .before .before .before .before .before .pre in
-    whole-rooms (c .before .before .before .before .before .before .args .w) (c .before .before .before .before .before .before .args .h) _ _ _ (p .picture) (p .singles) (p .bytes)
+passes-requires c κs = search needs
 
-blocks-whole-requires : tie.Need-blocks-whole-requires
-blocks-whole-requires c κs =
-    let a = c .before .before .before .before .before .before .before .before .before .before .before .before .before .args in
-    let p = c .before .before .before .before .before .before .before .before .before .before .before .before .before .pre in
-    (refl, (omega (arith, cut-room (a .w) (a .h) _ (p .bytes), c .before .before .before .before .before .before .passes .kept), out-room (a .w) (a .h) _ (p .output)))
+sub-tags : tie.Need-sub-tags
+sub-tags c = search needs
+
+part-tags-start : tie.Need-part-tags-start
+part-tags-start c = search needs
+
+part-tags-end : tie.Need-part-tags-end
+part-tags-end c = search needs
+
+mul-put-rect : tie.Need-mul-put-rect
+mul-put-rect c = search needs
+
+put-rect-requires : tie.Need-put-rect-requires
+put-rect-requires c κs = search needs
 
 same-length : tie.Need-same-length
 same-length c = search needs
@@ -37,19 +41,11 @@ same-length-3 c = search needs
 
 returns : tie.Need-returns
 returns c =
-    let a = c .before .before .before .before .before .before .before .before .before .before .before .before .before .before .before .before .args in
-    let p = c .before .before .before .before .before .before .before .before .before .before .before .before .before .before .before .before .pre in
-    let f = words (a .w) (a .picture .now) in
-    let cut = a .h * (a .w * 4) in
-    let s-room = cut-room (a .w) (a .h) _ (p .singles) in
-    let b-room = cut-room (a .w) (a .h) _ (p .bytes) in
-    let k = c .before .before .before .before .before .before .before .before .before .passes .ensures in
-    let e = c .before .before .blocks-whole .ensures in
-    record {
-      output-is = output-right (a .w) (a .h) f cut _ _ _ _ _ _ refl s-room b-room k e;
-      singles-are = singles-right (a .w) (a .h) f cut _ _ _ _ _ _ refl s-room b-room k e;
-      bytes-are = bytes-right (a .w) (a .h) f cut _ _ _ _ _ _ refl s-room b-room k e;
-    }
+    let first = c .before .before .before .before .before .before .before .before .before .before in
+    let start = first .before .before .before .before .before .before .before in
+    let a = start .args in
+    enlarged (a .w) (a .h) (a .picture .now) _ _ _ _ _ _ (start .pre) (first .passes .ensures)
+    (rw (whole-rest (a .h * (a .w * 4)) (first .passes .last .1 .1 .1 .1 .1 .1 .1 .1 .1 .0)) at (c .before .before .put-rect .ensures))
 
 pub enlarge-spec : {M : Type 1} → statement M
 enlarge-spec =
@@ -58,7 +54,11 @@ enlarge-spec =
     mul-cut
     mul-cut-2
     passes-requires
-    blocks-whole-requires
+    sub-tags
+    part-tags-start
+    part-tags-end
+    mul-put-rect
+    put-rect-requires
     same-length
     same-length-2
     same-length-3

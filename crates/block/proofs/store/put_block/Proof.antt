@@ -1,8 +1,14 @@
--- `whole::assemble::store_block` meets its contract. Assumes nothing.
-use Rattle.whole.specs.Laws.{putBlock}
+-- `block::store::put_block` meets its contract. Assumes nothing.
+use mathlib.Core.Path.{_∙_, ap}
+use mathlib.Core.List.{List}
+use Prim.Native.Nat.{ℕ}
+use Rattle.block.specs.Store.{putBlock}
 use borrow.Author.Needs.{needs}
-use Rattle.whole.proofs.assemble.store_block.Statement.{statement}
-use Rattle.whole.proofs.assemble.store_block.Tie as tie
+use Rattle.block.proofs.store.put_block.Statement.{statement}
+use Rattle.block.proofs.store.put_block.Tie as tie
+
+block-from-requires : tie.Need-block-from-requires
+block-from-requires c κs = search needs
 
 array-read-store3 : tie.Need-array-read-store3
 array-read-store3 c = search needs
@@ -54,12 +60,20 @@ same-length c = search needs
 
 returns : tie.Need-returns
 unfolding putBlock
-returns c = rw (c .before .before .before .before .before .before .store32 .ensures, c .before .before .before .before .before .before .before .before .before .before .store3 .ensures) at (c .before .before .store33 .ensures)
+returns c =
+    let third = c .before .before in
+    let second = third .before .before .before .before in
+    let first = second .before .before .before .before in
+    let start = first .before .before in
+    let a = start .before .before .before .args in
+    rw (second .store32 .ensures, first .store3 .ensures) at (third .store33 .ensures)
+    ∙ ap (λ (b : List ℕ). putBlock (a .ow) (a .at) b (a .out .now)) (start .block-from .ensures)
 
-pub store-block-spec : {M : Type 1} → statement M
-store-block-spec =
+pub put-block-spec : {M : Type 1} → statement M
+put-block-spec =
     tie.close
     (tie.spec
+    block-from-requires
     array-read-store3
     array-read-store3-2
     array-read-store3-3

@@ -1,0 +1,36 @@
+-- Blocks stored side by side, row after row, in an output of rows of ow words, and the room that they ask for. Definitions only.
+use mathlib.Core.List.{List, [], _∷_}
+use Prim.Native.Nat.{ℕ, zero, suc, _+_, _*_, _≤_}
+use lib.ListN.{getD}
+use Rattle.picture.specs.Fill.{put}
+
+-- row q of a block
+abbrev pub third : ℕ → List ℕ → List ℕ
+third q b = getD b (3 * q) 0 ∷ getD b (3 * q + 1) 0 ∷ getD b (3 * q + 2) 0 ∷ []
+
+-- a block's three rows, one below the other, the first word at `at`
+unfoldable pub putBlock : ℕ → ℕ → List ℕ → List ℕ → List ℕ
+putBlock ow at b l = put (at + 2 * ow) (third 2 b) (put (at + ow) (third 1 b) (put at (third 0 b) l))
+
+-- the first n blocks of a row, side by side from `at` on
+unfoldable pub putRow : ℕ → ℕ → ℕ → (ℕ → List ℕ) → List ℕ → List ℕ
+putRow ow at zero blocks l = l
+putRow ow at (suc n) blocks l = putBlock ow (at + n * 3) (blocks n) (putRow ow at n blocks l)
+
+-- the first n rows of k blocks, one below the other
+unfoldable pub putRect : ℕ → ℕ → ℕ → ℕ → (ℕ → ℕ → List ℕ) → List ℕ → List ℕ
+putRect ow at k zero blocks l = l
+putRect ow at k (suc n) blocks l = putRow ow (at + n * (3 * ow)) k (λ i. blocks i n) (putRect ow at k n blocks l)
+
+-- there is room in an output of o words for k blocks from column x on, side by side from `at` on; their tags are in t bytes from `from` on
+pub record RowRoom (w x k from t ow at o : ℕ) : Type 0 where
+  pub along : x + k ≤ w
+  pub tags : from + k * 4 ≤ t
+  pub words : at + 2 * ow + k * 3 ≤ o
+
+-- there is room for k by r blocks from (x, y) on: the last of the output's rows may end with them
+pub record RectRoom (w h x y k r ow at o : ℕ) : Type 0 where
+  pub along : x + k ≤ w
+  pub down : y + r ≤ h
+  pub words : at + r * (3 * ow) + k * 3 ≤ o + ow
+  pub wide : ow ≤ 65536
