@@ -250,7 +250,7 @@ fn tags_around(j: &[u8], g: Grid, w: u32, h: u32, x: u32, y: u32) -> Tags
 {
     let xs = seven_at(x, w);
     let ys = seven_at(y, h);
-    tag::trace_edges(
+    trace::trace_edges(
         junctions_in(j, g, xs.at, ys.at),
         junctions_in(j, g, xs.before1, ys.at),
         junctions_in(j, g, xs.before2, ys.at),
@@ -284,7 +284,7 @@ pub fn tags_at(j: &[u8], g: Grid, w: u32, h: u32, x: u32, y: u32) -> Tags
     }
     let xs = three_at(x, w);
     let ys = three_at(y, h);
-    let q = tag::trace_near(
+    let q = trace::trace_near(
         e,
         junctions_in(j, g, xs.before, y),
         junctions_in(j, g, xs.after, y),
