@@ -1,4 +1,4 @@
--- `text::put_enlarged` meets its contract. Assumes nothing.
+-- `print::put_enlarged` meets its contract. Assumes nothing.
 use mathlib.Core.List.{List}
 use mathlib.Core.Path.{_≡_, sym, _∙_, ap}
 use Prim.Native.Nat.{ℕ, _*_}
@@ -8,10 +8,10 @@ use borrow.Author.Needs.{needs}
 use Rattle.picture.specs.Picture.{words}
 use Rattle.whole.specs.Laws.{scale-length}
 use Rattle.whole.specs.Whole.{scaleOf}
 use Rattle.text.specs.Text.{pictureText}
 use Rattle.text.proofs.Sizes.{scaled, nine}
-use Rattle.text.proofs.put_enlarged.Statement.{statement}
-use Rattle.text.proofs.put_enlarged.Tie as tie
+use Rattle.print.proofs.put_enlarged.Statement.{statement}
+use Rattle.print.proofs.put_enlarged.Tie as tie
 
 module _ (c : tie.After-scale) where
   abbrev start : tie.Start

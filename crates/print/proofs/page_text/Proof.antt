@@ -1,4 +1,4 @@
--- `text::page_text` meets its contract. Assumes nothing.
+-- `print::page_text` meets its contract. Assumes nothing.
 use mathlib.Core.List.{List}
 use mathlib.Core.Path.{refl, sym}
 use Prim.Native.Nat.{ℕ, _*_, _≤_}
@@ -6,9 +6,9 @@ use native.Mathlib.Omega.{arith}
 use lib.ListN.{length, take}
 use borrow.Author.Needs.{needs}
 use Rattle.page.specs.declared.PageRead.{PageRead}
 use Rattle.text.proofs.Sizes.{refused-most, enlarged-most, prints-long, prints-number, prints-page, Ready, ready}
-use Rattle.text.proofs.page_text.Statement.{statement}
-use Rattle.text.proofs.page_text.Tie as tie
+use Rattle.print.proofs.page_text.Statement.{statement}
+use Rattle.print.proofs.page_text.Tie as tie
 
 -- past the refusals
 module _ (c : tie.Else2) where
