@@ -10,7 +10,7 @@ use lib.Arith.{digits-div, digits-mod}
 use Rattle.picture.specs.Picture.{words}
 use Rattle.picture.specs.Fill.{chunk}
 use Rattle.tag.specs.declared.Tags.{Tags}
-use Rattle.field.specs.Grid.{tagsAt}
+use Rattle.grid.specs.Grid.{tagsAt}
 use Rattle.block.specs.Block.{pictureTags, blockFrom, blockOf}
 use Rattle.block.specs.Window.{Tile, TileTagged}
 use Rattle.session.specs.Lists.{table}

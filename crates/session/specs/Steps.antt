@@ -7,7 +7,7 @@ use lib.Dec.{leb, ltb}
 use lib.ListN.{length, getD, take, replicate}
 use lib.Seq.{slice}
 use Rattle.picture.specs.Picture.{words}
-use Rattle.field.specs.Grid.{tagsAt}
+use Rattle.grid.specs.Grid.{tagsAt}
 use Rattle.block.specs.Block.{pictureTags}
 use Rattle.session.specs.Lists.{table, setAll, has, firstFrom}
 use Rattle.session.specs.Screen.{Screen}

@@ -1,7 +1,7 @@
 // The marks: a byte for each block, 0 for not stale and any other for stale.
 use block::ROWS;
-use field::place::least;
-use field::place::less;
+use grid::place::least;
+use grid::place::less;
 ghost use mathlib.Core.Path.{_≡_};
 ghost use mathlib.Core.List.{[], _∷_};
 ghost use Prim.Native.Nat.{_+_, _*_, _<_, _≤_, min};

@@ -2,7 +2,7 @@
 use super::output::put_block;
 use block::TAGS;
 use block::tags_tile;
-use field::grid::load_tags;
+use grid::load_tags;
 ghost use Prim.Native.Nat.{_+_, _*_};
 ghost use lib.ListN.{length};
 ghost use Rattle.block.specs.Window.{Tile};

@@ -9,7 +9,7 @@ use lib.Dec.{ltb, eqb}
 use borrow.Author.Tests.{ltb-false, le-ltb, eqb-true}
 use lib.ListN.{length, take, drop, length-drop}
 use lib.Seq.{take-all}
-use Rattle.field.specs.Room.{Feeds}
+use Rattle.grid.specs.Room.{Feeds}
 use Rattle.block.specs.Window.{Rooms}
 use Rattle.whole.specs.Laws.{gridOf}
 use Rattle.picture.specs.Fill.{put}

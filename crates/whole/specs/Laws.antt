@@ -8,8 +8,8 @@ use native.Mathlib.Omega.{arith}
 use lib.ListN.{length, getD, drop, length-append}
 use lib.Seq.{getD-take, getD-drop}
 use Rattle.picture.specs.Fill.{flat, put, put-put, put-comm, put-nil, length-put, length-flat, getD-flat, getD-flat-below, within}
-use Rattle.field.specs.declared.grid.Grid.{Grid}
-use Rattle.field.specs.Grid.{ofMetric, ofWeights, ofJunctions, ofTags, tagsAt}
+use Rattle.grid.specs.declared.Grid.{Grid}
+use Rattle.grid.specs.Grid.{ofMetric, ofWeights, ofJunctions, ofTags, tagsAt}
 use Rattle.metric.specs.Metric.{metrics}
 use Rattle.metric.specs.Weight.{weights}
 use Rattle.block.specs.Block.{pictureJunctions, pictureTags, blockFrom, blockOf}

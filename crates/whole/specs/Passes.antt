@@ -14,8 +14,8 @@ use Rattle.picture.specs.Fill.{flat, flat-same, put, put-put, length-put}
 use Rattle.metric.specs.Metric.{metrics}
 use Rattle.metric.specs.Weight.{weights}
 use Rattle.tag.specs.declared.Tags.{Tags}
-use Rattle.field.specs.Grid.{ofMetric, ofWeights, ofJunctions, ofTags, tagsField, tagsAt, rowOf, rectOf}
-use Rattle.field.specs.Kept.{Holds, Spans, holds-drop, rect-length, tags-kept}
+use Rattle.grid.specs.Grid.{ofMetric, ofWeights, ofJunctions, ofTags, tagsField, tagsAt, rowOf, rectOf}
+use Rattle.grid.specs.Kept.{Holds, Spans, holds-drop, rect-length, tags-kept}
 use Rattle.block.specs.Block.{pictureJunctions, pictureTags, blockFrom, blockOf}
 use Rattle.block.specs.Window.{Passed}
 use Rattle.whole.specs.Whole.{allOf, third, rowsOf, scaleOf, singlesOf, bytesOf}

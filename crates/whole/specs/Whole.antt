@@ -6,7 +6,7 @@ use lib.ListN.{take, drop}
 use Rattle.picture.specs.Fill.{flat}
 use Rattle.metric.specs.Metric.{metrics}
 use Rattle.metric.specs.Weight.{weights}
-use Rattle.field.specs.Grid.{ofMetric, ofWeights, ofJunctions, ofTags}
+use Rattle.grid.specs.Grid.{ofMetric, ofWeights, ofJunctions, ofTags}
 use Rattle.block.specs.Block.{pictureJunctions, pictureTags, blockOf}
 
 -- the records of all pixels, row by row

@@ -1,5 +1,5 @@
 // The output's words, block by block, from the tags of all pixels.
-use field::grid::load_tags;
+use grid::load_tags;
 ghost use mathlib.Core.Path.{_≡_};
 ghost use mathlib.Core.List.{[], _∷_};
 ghost use Prim.Native.Nat.{ℕ, _+_, _-_, _*_, _<_, _≤_};

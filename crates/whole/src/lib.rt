@@ -1,7 +1,7 @@
 // Whole pictures: three-times and nine-times, into buffers that the caller lends.
 use assemble::assemble_3x;
 use block::passes;
-use field::grid::Grid;
+use grid::Grid;
 ghost use mathlib.Core.Path.{_≡_};
 ghost use Prim.Native.Nat.{ℕ, _+_, _-_, _*_, _<_, _≤_};
 ghost use lib.ListN.{length, drop};

@@ -3,7 +3,7 @@ use native.Mathlib.Omega.{arith}
 use mathlib.Core.Path.{_≡_, refl, _∙_, ap}
 use Prim.Native.Nat.{_+_, _*_, _-_, _≤_}
 use Rattle.picture.specs.Picture.{words}
-use Rattle.field.specs.Grid.{tagsAt}
+use Rattle.grid.specs.Grid.{tagsAt}
 use Rattle.block.specs.Block.{blockFrom}
 use Rattle.whole.specs.Laws.{taggedBlock, Blocks, blocks-none, blocks-more, blocks-done, three-words, word-lists}
 use borrow.Author.Needs.{needs}
