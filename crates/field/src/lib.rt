@@ -13,15 +13,15 @@ use junction::Junctions;
 use metric::Metric;
 use metric::Weights;
 ghost use mathlib.Core.Path.{_≡_};
-ghost use Prim.Native.Nat.{ℕ, _+_, _-_, _*_, _^_, _<_, _≤_};
-ghost use lib.ListN.{length, getD, take, drop};
+ghost use Prim.Native.Nat.{_+_, _*_, _<_, _≤_};
+ghost use lib.ListN.{length, take};
 ghost use Rattle.picture.specs.Picture.{words};
 ghost use Rattle.picture.specs.Fill.{put};
 ghost use Rattle.metric.specs.Metric.{metrics};
 ghost use Rattle.metric.specs.Weight.{weights};
 ghost use Rattle.junction.specs.Junction.{junctions};
 ghost use Rattle.grid.specs.Grid.{ofMetric, ofWeights, ofJunctions, metricField};
-ghost use Rattle.grid.specs.Grid.{weightsField, junctionsField, rowOf, rectOf};
+ghost use Rattle.grid.specs.Grid.{weightsField, rowOf, rectOf};
 ghost use Rattle.grid.specs.Room.{Held, Around, Strip, Inner, Reads, Feeds};
 
 // The metric of the pixel (x, y).

@@ -6,7 +6,7 @@ use native.Mathlib.Nat.{mod-mod, mod-eq-of-lt, mul-le-mul-right, mul-div-cancel,
 use native.Mathlib.Omega.{arith}
 use lib.Dec.{eqb}
 use lib.Pow.{pow-pos}
-use lib.Bits.{bitAnd, bitOr, bitXor, and-block, or-block, xor-block, and-mod, or-mod, xor-mod, and-mask, and-high, and-shr, and-zero-r, or-zero-r}
+use lib.Bits.{bitAnd, bitOr, bitXor, and-block, or-block, xor-block, and-mod, or-mod, xor-mod, and-mask, and-shr, and-zero-r, or-zero-r}
 use Rattle.lanes.specs.Lanes.{lanes, ones, across, down, opposite, beside, above, own, after, choose}
 
 -- the four bytes of a word
