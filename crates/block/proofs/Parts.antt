@@ -13,8 +13,8 @@ use mir.ValLaws.{toZ-ofZ}
 use Rattle.picture.specs.Picture.{near}
 use Rattle.tag.specs.declared.Offset.{Offset}
 use Rattle.tag.specs.Tag.{offsetOf}
-use Rattle.field.specs.declared.grid.Grid.{Grid}
-use Rattle.field.specs.Room.{Held}
+use Rattle.grid.specs.declared.Grid.{Grid}
+use Rattle.grid.specs.Room.{Held}
 use Rattle.tag.specs.declared.Tags.{Tags}
 use Rattle.block.specs.Block.{tagWord, blockFrom}
 use Rattle.block.specs.Window.{wordsByTag}

@@ -17,10 +17,10 @@ use Rattle.junction.specs.declared.Junctions.{Junctions}
 use Rattle.junction.specs.Junction.{junctions}
 use Rattle.tag.specs.declared.Tags.{Tags}
 use Rattle.tag.specs.Tag.{tags}
-use Rattle.field.specs.declared.grid.Grid.{Grid}
-use Rattle.field.specs.Grid.{ofMetric, ofWeights, ofJunctions, ofTags, metricField, weightsField, junctionsField, tagsField, tagsAt, rowOf, rectOf}
-use Rattle.field.specs.Room.{Held, Within, Feeds}
-use Rattle.field.specs.Kept.{Holds, Spans, holds-put, holds-take, holds-drop, rect-length, metrics-kept, weights-kept, junctions-kept, tags-kept}
+use Rattle.grid.specs.declared.Grid.{Grid}
+use Rattle.grid.specs.Grid.{ofMetric, ofWeights, ofJunctions, ofTags, metricField, weightsField, junctionsField, tagsField, tagsAt, rowOf, rectOf}
+use Rattle.grid.specs.Room.{Held, Within, Feeds}
+use Rattle.grid.specs.Kept.{Holds, Spans, holds-put, holds-take, holds-drop, rect-length, metrics-kept, weights-kept, junctions-kept, tags-kept}
 use Rattle.block.specs.Block.{pictureJunctions, pictureTags}
 use Rattle.block.specs.Locality.{stages}
 use Rattle.block.specs.Window.{Rooms, Passed, Tile, tileOf, ringOf, TileTagged}

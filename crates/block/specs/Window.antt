@@ -8,9 +8,9 @@ use lib.ListN.{length, drop}
 use Rattle.picture.specs.Fill.{put}
 use Rattle.metric.specs.Metric.{metrics}
 use Rattle.metric.specs.Weight.{weights}
-use Rattle.field.specs.declared.grid.Grid.{Grid}
-use Rattle.field.specs.Grid.{ofMetric, ofWeights, ofJunctions, ofTags, tagsAt, rectOf}
-use Rattle.field.specs.Room.{Held, Inner, Feeds}
+use Rattle.grid.specs.declared.Grid.{Grid}
+use Rattle.grid.specs.Grid.{ofMetric, ofWeights, ofJunctions, ofTags, tagsAt, rectOf}
+use Rattle.grid.specs.Room.{Held, Inner, Feeds}
 use Rattle.block.specs.Block.{pictureJunctions, pictureTags, tagWord}
 
 -- metrics of g before the cut and weights of v from there on in s singles, junctions of q before `from` and tags of t from there on in b bytes:

@@ -1,20 +1,20 @@
 // The passes on rectangles each of which holds what the next one reads, the tags of a tile of pixels from the picture alone, and the nine
 // words of a block that its tags name.
-use field::grid::Grid;
 use field::junctions_rect;
 use field::metrics_rect;
-use field::place::least;
-use field::place::less;
-use field::tags_rect;
 use field::weights_rect;
+use grid::Grid;
+use picture::place::least;
+use picture::place::less;
 use tag::Tags;
+use tagged::tags_rect;
 ghost use mathlib.Core.Path.{_≡_};
 ghost use Prim.Native.Nat.{ℕ, _+_, _-_, _*_, _^_, _<_, _≤_};
 ghost use lib.ListN.{length, take, drop};
 ghost use Rattle.picture.specs.Picture.{words};
 ghost use Rattle.picture.specs.Fill.{put};
-ghost use Rattle.field.specs.Grid.{ofJunctions, metricField, weightsField, rectOf};
-ghost use Rattle.field.specs.Room.{Held, Feeds};
+ghost use Rattle.grid.specs.Grid.{ofJunctions, metricField, weightsField, rectOf};
+ghost use Rattle.grid.specs.Room.{Held, Feeds};
 ghost use Rattle.junction.specs.Junction.{junctions};
 ghost use Rattle.block.specs.Block.{tagWord, blockFrom};
 ghost use Rattle.block.specs.Window.{Tile, ringOf, Rooms, Passed, TileTagged, wordsByTag};

@@ -1,7 +1,7 @@
 // A block's nine words stored in an output of longer rows: of one pixel, of a row of pixels, and of a rectangle of them. Whole pictures and
 // tiles of them are written here.
 use crate::block_from;
-use field::grid::load_tags;
+use grid::load_tags;
 use tag::Tags;
 ghost use mathlib.Core.Path.{_≡_};
 ghost use mathlib.Core.List.{[], _∷_};
@@ -9,7 +9,7 @@ ghost use Prim.Native.Nat.{_+_, _*_, _<_, _≤_};
 ghost use lib.ListN.{length, set};
 ghost use Rattle.picture.specs.Picture.{words};
 ghost use Rattle.picture.specs.Fill.{put};
-ghost use Rattle.field.specs.Grid.{tagsAt};
+ghost use Rattle.grid.specs.Grid.{tagsAt};
 ghost use Rattle.block.specs.Block.{blockFrom};
 ghost use Rattle.block.specs.Store.{putBlock, putRow, putRect, RowRoom, RectRoom};
 

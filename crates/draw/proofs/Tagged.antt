@@ -7,7 +7,7 @@ use native.Mathlib.Omega.{arith}
 use lib.ListN.{length, take, drop, length-drop}
 use lib.Seq.{take-all}
 use Rattle.picture.specs.Picture.{words}
-use Rattle.field.specs.Grid.{tagsAt}
+use Rattle.grid.specs.Grid.{tagsAt}
 use Rattle.block.specs.Block.{pictureTags}
 use Rattle.block.specs.Store.{RectRoom}
 use Rattle.block.specs.Window.{Tile, TileTagged}

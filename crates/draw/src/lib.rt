@@ -2,8 +2,8 @@
 // a tile is drawn (tile.rt) is the three-times screen's.
 use block::COLUMNS;
 use marks::count_stale;
-use marks::place::least;
 use marks::stale_run;
+use picture::place::least;
 use sweep::sweep;
 use tile::draw_tile;
 ghost use mathlib.Core.Path.{_≡_};

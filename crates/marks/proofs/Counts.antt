@@ -155,4 +155,3 @@ none-clear lo hi m e h b l u =
     ap (λ (i : ℕ). getD m i 0) (sym q)
     ∙ fresh (getD m (lo + j) 0)
     (sym (stale-at lo hi j m (omega arith)) ∙ getD-any (staleIn lo hi m) j false true n ∙ none-true (staleIn lo hi m) e j n)
-

@@ -1,7 +1,7 @@
 // The marks: a byte for each block, 0 for not stale and any other for stale. They are counted, searched for runs and tiles of stale blocks, set round a
 // position and cleared. Nothing here knows how a block is drawn, nor how far a paint reaches.
-use place::least;
-use place::less;
+use picture::place::least;
+use picture::place::less;
 ghost use mathlib.Core.Path.{_≡_};
 ghost use mathlib.Core.List.{[], _∷_};
 ghost use Prim.Native.Nat.{_+_, _*_, _<_, _≤_, min};
@@ -10,8 +10,6 @@ ghost use lib.ListN.{length, getD};
 ghost use Rattle.machine.specs.Lists.{count, stamp, setAll};
 ghost use Rattle.machine.specs.Calls.{isStale};
 ghost use Rattle.marks.specs.Marks.{run, staleIn, blocksFrom, tileBlocks, StaleRun, StaleTile, TileStart, boxed};
-
-pub mod place;
 
 // 1 for a stale block, 0 for another.
 fn one_if_stale(mark: u8) -> u8
@@ -111,7 +109,16 @@ pub fn mark_run(marks: &mut [u8], lo: usize, hi: usize)
 }
 
 // The blocks at most `side` columns beside (column, row), `up` rows above and `down` rows below made stale, row by row.
-pub fn mark_box(marks: &mut [u8], w: u32, h: u32, column: u32, row: u32, side: u32, up: u32, down: u32)
+pub fn mark_box(
+    marks: &mut [u8],
+    w: u32,
+    h: u32,
+    column: u32,
+    row: u32,
+    side: u32,
+    up: u32,
+    down: u32,
+)
     requires { ⌜ (w ≤ 2048) × ((h ≤ 2048) × ((column < w) × ((row < h) × ((side ≤ 2048) × ((down ≤ 2048)
         × (w * h ≤ length (now marks))))))) ⌝ }
     ensures { λ r. ⌜ now (marks .exit) ≡ stamp (boxed w h column row side up down) 1 (now (marks .entry)) ⌝ }

@@ -5,10 +5,10 @@ use libc::STDOUT_FILENO;
 
 fn main() {
     // One byte past the longest file that is taken: a longer one is then known to be longer.
-    let mut file = [0u8; text::FILE + 1];
+    let mut file = [0u8; print::FILE + 1];
     let n = io::read_full(STDIN_FILENO, &mut file);
-    let mut text = [0u8; text::TEXT];
-    let k = text::page_text(&file[..n], &mut text);
+    let mut text = [0u8; print::TEXT];
+    let k = print::page_text(&file[..n], &mut text);
     if !io::write_all(STDOUT_FILENO, &text[..k]) {
         io::write_all(
             STDERR_FILENO,

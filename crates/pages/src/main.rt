@@ -28,8 +28,8 @@ fn read(file: &[u8]) {
 
 // The text's length, and the text; of a long one its first six bytes.
 fn print(file: &[u8]) {
-    let mut text = [0u8; text::TEXT];
-    let k = text::page_text(file, &mut text);
+    let mut text = [0u8; print::TEXT];
+    let k = print::page_text(file, &mut text);
     io::print_decimal(STDOUT_FILENO, k as u64);
     io::write_all(STDOUT_FILENO, b"\n");
     if k < 4096 {

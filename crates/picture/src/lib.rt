@@ -3,6 +3,7 @@ ghost use mathlib.Core.Path.{_≡_};
 ghost use Prim.Native.Nat.{ℕ, _+_, _*_, _<_, _≤_};
 ghost use Rattle.picture.specs.Picture.{clampZ, moved, near, words};
 
+pub mod place;
 pub mod reader;
 pub mod refusal;
 

@@ -55,7 +55,16 @@ pub fn refuse_paint(side: u32, w: u32, h: u32, p: usize, m: usize, column: u32, 
 }
 
 // Of a show of block (bx, by), which looks at the block's mark too.
-pub fn refuse_show(side: u32, words: usize, w: u32, h: u32, o: usize, marks: &[u8], bx: u32, by: u32) -> u32
+pub fn refuse_show(
+    side: u32,
+    words: usize,
+    w: u32,
+    h: u32,
+    o: usize,
+    marks: &[u8],
+    bx: u32,
+    by: u32,
+) -> u32
     requires { ⌜ (side ≤ 2048) × (words ≤ 81) ⌝ }
     ensures { λ r. ⌜ r ≡ refusalShow side words w h o (now (marks .entry)) bx by ⌝ }
 {

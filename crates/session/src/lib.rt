@@ -76,7 +76,15 @@ impl Session {
               stale = r .stale;
             }) ⌝ }
     {
-        let refusal = refuse_all(Session::SIDE, WORDS, w, h, picture.len(), output.len(), marks.len());
+        let refusal = refuse_all(
+            Session::SIDE,
+            WORDS,
+            w,
+            h,
+            picture.len(),
+            output.len(),
+            marks.len(),
+        );
         if refusal != 0 {
             return Opened {
                 refusal,
@@ -154,7 +162,15 @@ impl Session {
     {
         let w = self.w;
         let h = self.h;
-        let refusal = refuse_all(Session::SIDE, WORDS, w, h, picture.len(), output.len(), marks.len());
+        let refusal = refuse_all(
+            Session::SIDE,
+            WORDS,
+            w,
+            h,
+            picture.len(),
+            output.len(),
+            marks.len(),
+        );
         if refusal != 0 {
             return Refreshed {
                 refusal,

@@ -8,17 +8,17 @@ use lib.Dec.{eqb}
 use lib.Bits.{bitAnd, bitOr, or-add-and, and-le-l, and-le-r, and-zero-l, and-zero-r, and-block, and-mod, and-mask}
 use borrow.Author.Tests.{eqb-true}
 use Rattle.junction.specs.declared.Junctions.{Junctions}
-use Rattle.tag.specs.declared.lanes.Pair.{Pair}
+use Rattle.lanes.specs.declared.Pair.{Pair}
+use Rattle.lanes.specs.Lanes.{lanes, wordOf, across, down, above, own, after, choose}
+use Rattle.lanes.proofs.Laws.{num, bytewise}
 use Rattle.tag.specs.declared.Neighbors.{Neighbors}
 use Rattle.tag.specs.declared.Near.{Near}
 use Rattle.tag.specs.declared.Tags.{Tags}
 use Rattle.tag.specs.Tag.{active, horizontal, vertical, traceEdges}
 use Rattle.tag.specs.Laws.{none}
-use Rattle.tag.specs.Lanes.{lanes, across, down, above, own, after, choose}
-use Rattle.tag.specs.Words.{wordOf, actives, horizontals, verticals, aroundOf, level2Of, level3Of, level4Near, level4Of, level5Of, level6Of}
+use Rattle.tag.specs.Words.{actives, horizontals, verticals, aroundOf, level2Of, level3Of, level4Near, level4Of, level5Of, level6Of}
 use Rattle.tag.specs.Words.{farCorners, farMids, farOf, cornersOf, bothOf, midsOf, tagsWord, splitOf, bareOf, nothing, knownOf, nearOf}
-use Rattle.tag.proofs.LaneLaws.{num, bytewise}
-use Rattle.tag.proofs.LaneLaws as laws
+use Rattle.tag.proofs.Flags as flags
 use Rattle.tag.proofs.Same.{around-sides, same}
 
 pub or-none : (a b : ℕ) → bitOr a b ≡ 0 → (a ≡ 0) × (b ≡ 0)
@@ -123,10 +123,10 @@ module _ (e dl dl2 dl3 dr dr2 dr3 du du2 du3 dd dd2 dd3 : Junctions) where
       let b2 = bare (e .n2) (z .2) in
       let b3 = bare (e .n3) (z .3) in
       let r = run-none (wordOf e) n
-      (laws.horizontals (e .n0) (e .n1) (e .n2) (e .n3) ∙ rw (b0 .no-horizontal, b1 .no-horizontal, b2 .no-horizontal, b3 .no-horizontal) blank)
-      (laws.verticals (e .n0) (e .n1) (e .n2) (e .n3) ∙ rw (b0 .no-vertical, b1 .no-vertical, b2 .no-vertical, b3 .no-vertical) blank) in
+      (flags.horizontals (e .n0) (e .n1) (e .n2) (e .n3) ∙ rw (b0 .no-horizontal, b1 .no-horizontal, b2 .no-horizontal, b3 .no-horizontal) blank)
+      (flags.verticals (e .n0) (e .n1) (e .n2) (e .n3) ∙ rw (b0 .no-vertical, b1 .no-vertical, b2 .no-vertical, b3 .no-vertical) blank) in
       stops (r .0) (r .1)
-      (laws.actives (e .n0) (e .n1) (e .n2) (e .n3) ∙ rw (b0 .no-active, b1 .no-active, b2 .no-active, b3 .no-active) blank)
+      (flags.actives (e .n0) (e .n1) (e .n2) (e .n3) ∙ rw (b0 .no-active, b1 .no-active, b2 .no-active, b3 .no-active) blank)
 
   -- for a caller that loads the neighbours only where they count
   pub bare-none : bareOf e ≡ true → traceEdges e dl dl2 dl3 dr dr2 dr3 du du2 du3 dd dd2 dd3 ≡ none

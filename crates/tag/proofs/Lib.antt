@@ -1,3 +1,3 @@
-pub mod LaneLaws
+pub mod Flags
 pub mod Same
 pub mod Exits

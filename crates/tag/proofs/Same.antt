@@ -5,16 +5,17 @@ use Prim.Native.Nat.{ℕ, _+_, _*_, _%_, _≤_}
 use native.Mathlib.Nat.{mod-eq-of-lt}
 use native.Mathlib.Omega.{arith}
 use Rattle.junction.specs.declared.Junctions.{Junctions}
-use Rattle.tag.specs.declared.lanes.Pair.{Pair}
+use Rattle.lanes.specs.declared.Pair.{Pair}
+use Rattle.lanes.specs.Lanes.{lanes, wordOf}
+use Rattle.lanes.proofs.Laws.{byte0, byte1, byte2, byte3}
+use Rattle.lanes.proofs.Laws.{across-lanes, down-lanes, opposite-lanes, beside-lanes, above-lanes, own-lanes, after-lanes}
+use Rattle.lanes.proofs.Laws.{and-flags, or-flags, not-flags, choose-flags}
 use Rattle.tag.specs.declared.Neighbors.{Neighbors}
 use Rattle.tag.specs.Tag.{if_then_else_, decodeFlags, cornerTag, midTag, traceFlags, traceEdges}
 use Rattle.tag.specs.Laws.{corner-le, mid-le, packed}
-use Rattle.tag.specs.Lanes.{lanes}
-use Rattle.tag.specs.Words.{wordOf, aroundOf, level2Of, level3Of, level4Near, level4Of, level5Of, level6Of}
+use Rattle.tag.specs.Words.{aroundOf, level2Of, level3Of, level4Near, level4Of, level5Of, level6Of}
 use Rattle.tag.specs.Words.{farCorners, farMids, farOf, cornersOf, bothOf, midsOf, tagsWord, splitOf}
-use Rattle.tag.proofs.LaneLaws.{byte0, byte1, byte2, byte3}
-use Rattle.tag.proofs.LaneLaws.{across-lanes, down-lanes, opposite-lanes, beside-lanes, above-lanes, own-lanes, after-lanes}
-use Rattle.tag.proofs.LaneLaws.{and-flags, or-flags, not-flags, choose-flags, actives, horizontals, verticals, orientations}
+use Rattle.tag.proofs.Flags.{actives, horizontals, verticals, orientations}
 
 -- the neighbours, corner by corner
 abbrev pub sides : Junctions → Junctions → Junctions → Junctions → Neighbors

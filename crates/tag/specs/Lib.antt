@@ -1,5 +1,4 @@
 pub mod Tag
-pub mod Lanes
 pub mod Words
 pub mod Laws
 pub mod Unpack

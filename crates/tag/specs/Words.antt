@@ -5,19 +5,15 @@ use Prim.Native.Nat.{ℕ, _+_, _*_, _/_, _%_}
 use lib.Dec.{eqb}
 use lib.Bits.{bitAnd, bitOr, bitXor}
 use Rattle.junction.specs.declared.Junctions.{Junctions}
+use Rattle.lanes.specs.declared.Pair.{Pair}
+use Rattle.lanes.specs.Lanes.{lanes, wordOf, ones, across, down, opposite, beside, above, own, after, choose}
 use Rattle.tag.specs.declared.Tags.{Tags}
-use Rattle.tag.specs.declared.lanes.Pair.{Pair}
 use Rattle.tag.specs.declared.Neighbors.{Neighbors}
 use Rattle.tag.specs.declared.FarCorners.{FarCorners}
 use Rattle.tag.specs.declared.FarMids.{FarMids}
 use Rattle.tag.specs.declared.Far.{Far}
 use Rattle.tag.specs.declared.Near.{Near}
 use Rattle.tag.specs.Tag.{CENTER, LEFT, LEFT2, RIGHT, RIGHT2, UP, UP2, DOWN, DOWN2}
-use Rattle.tag.specs.Lanes.{lanes, ones, across, down, opposite, beside, above, own, after, choose}
-
--- the junction numbers of a pixel
-abbrev pub wordOf : Junctions → ℕ
-wordOf j = lanes (j .n0) (j .n1) (j .n2) (j .n3)
 
 infixl 35 _and_
 infixl 30 _or_

@@ -1,19 +1,12 @@
-// The text of a picture, written into a lent buffer.
+// The text of a picture and of a refusal, written into a lent buffer piece by piece.
 ghost use mathlib.Core.Path.{_≡_};
 ghost use mathlib.Core.List.{[], _∷_, _++_};
 ghost use Prim.Native.Nat.{_+_, _*_, _<_, _≤_};
 ghost use lib.ListN.{length};
 ghost use Rattle.text.specs.Text.{digits, places, hex, decimal, spaced, line, rows};
-ghost use Rattle.text.specs.Text.{sidesText, pictureText, enlargedText, refusedText, Prints};
+ghost use Rattle.text.specs.Text.{sidesText, pictureText, refusedText};
 ghost use Rattle.text.specs.Text.{digit as Text·digit};
 ghost use Rattle.text.specs.Writes.{gap, Writes};
-use page::read_page;
-use picture::refusal;
-
-// The longest file that page3x takes.
-pub const FILE: usize = 4108;
-// The longest text: ten bytes of a first line, and nine for each of 9 * 1,024 words.
-pub const TEXT: usize = 82954;
 
 // A digit's character.
 fn digit(d: u32) -> u8
@@ -141,7 +134,7 @@ fn put_sides(w: u32, h: u32, text: &mut [u8]) -> usize
 }
 
 // A picture's sides and rows.
-fn put_picture(w: u32, h: u32, words: &[u32], text: &mut [u8]) -> usize
+pub fn put_picture(w: u32, h: u32, words: &[u32], text: &mut [u8]) -> usize
     requires { ⌜ (h * w ≤ length (now words)) × (length (pictureText w h (now words)) ≤ length (now text)) ⌝ }
     ensures { λ r. ⌜ Writes 0 (pictureText w h (now (words .entry))) (now (text .entry)) (now (text .exit)) r ⌝ }
 {
@@ -150,41 +143,11 @@ fn put_picture(w: u32, h: u32, words: &[u32], text: &mut [u8]) -> usize
 }
 
 // A refusal's line.
-fn put_refused(number: u32, text: &mut [u8]) -> usize
+pub fn put_refused(number: u32, text: &mut [u8]) -> usize
     requires { ⌜ length (refusedText number) ≤ length (now text) ⌝ }
     ensures { λ r. ⌜ Writes 0 (refusedText number) (now (text .entry)) (now (text .exit)) r ⌝ }
 {
     let mut next = put_bytes(b"refused ", text, 0);
     next = put_decimal(number, text, next);
     put_byte(b'\n', text, next)
-}
-
-// A page of at most 1,024 pixels, enlarged.
-fn put_enlarged(w: u32, h: u32, picture: &[u32], text: &mut [u8]) -> usize
-    requires { ⌜ (w ≤ 2048) × (h ≤ 2048) × (w * h ≤ 1024) × (w * h ≤ length (now picture)) ⌝ }
-    requires { ⌜ length (enlargedText w h (now picture)) ≤ length (now text) ⌝ }
-    ensures { λ r. ⌜ Writes 0 (enlargedText w h (now (picture .entry))) (now (text .entry)) (now (text .exit)) r ⌝ }
-{
-    let mut output = [0u32; 9216];
-    let mut singles = [0.0f32; 8192];
-    let mut bytes = [0u8; 8192];
-    whole::scale(w, h, picture, &mut output, &mut singles, &mut bytes);
-    let n = 9 * ((w as usize) * (h as usize));
-    put_picture(3 * w, 3 * h, &output[..n], text)
-}
-
-// What page3x prints of a file, and how long it is. The page's words and the enlarged page lie on the stack.
-pub fn page_text(file: &[u8], text: &mut [u8; TEXT]) -> usize
-    ensures { λ r. ⌜ Prints (now (file .entry)) (now (text .entry)) (now (text .exit)) r ⌝ }
-{
-    if file.len() > FILE {
-        return put_refused(refusal::LONG, text);
-    }
-    let mut picture = [0u32; 1024];
-    let page = read_page(file, &mut picture);
-    if page.refusal != refusal::NONE {
-        return put_refused(page.refusal, text);
-    }
-    let n = (page.w as usize) * (page.h as usize);
-    put_enlarged(page.w, page.h, &picture[..n], text)
 }

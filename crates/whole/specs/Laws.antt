@@ -6,7 +6,7 @@ use native.Mathlib.Nat.{mul-assoc, mul-comm, mul-left-comm, add-mul, suc-mul, ad
 use native.Mathlib.Omega.{arith}
 use lib.ListN.{length, getD, length-append}
 use Rattle.picture.specs.Fill.{flat, put, put-put, put-comm, put-nil, length-put, length-flat, getD-flat, getD-flat-below, within}
-use Rattle.field.specs.Grid.{ofMetric, ofWeights, ofJunctions, ofTags}
+use Rattle.grid.specs.Grid.{ofMetric, ofWeights, ofJunctions, ofTags}
 use Rattle.metric.specs.Metric.{metrics}
 use Rattle.metric.specs.Weight.{weights}
 use Rattle.block.specs.Block.{pictureJunctions, pictureTags, blockOf}

@@ -13,9 +13,9 @@ use Rattle.picture.specs.Local.{In}
 use Rattle.picture.specs.Fill.{flat-same, put, put-put, length-put}
 use Rattle.metric.specs.Metric.{metrics}
 use Rattle.metric.specs.Weight.{weights}
-use Rattle.field.specs.declared.grid.Grid.{Grid}
-use Rattle.field.specs.Grid.{ofMetric, ofWeights, ofJunctions, ofTags, tagsField, tagsAt, rowOf, rectOf}
-use Rattle.field.specs.Kept.{Holds, Spans, holds-drop, rect-length, tags-kept}
+use Rattle.grid.specs.declared.Grid.{Grid}
+use Rattle.grid.specs.Grid.{ofMetric, ofWeights, ofJunctions, ofTags, tagsField, tagsAt, rowOf, rectOf}
+use Rattle.grid.specs.Kept.{Holds, Spans, holds-drop, rect-length, tags-kept}
 use Rattle.block.specs.Block.{pictureJunctions, pictureTags, blockFrom, blockOf}
 use Rattle.block.specs.Window.{Passed}
 use Rattle.block.specs.Store.{putRect}

@@ -5,7 +5,7 @@ use lib.Ieee.{Float}
 use Rattle.picture.specs.Fill.{flat}
 use Rattle.metric.specs.Metric.{metrics}
 use Rattle.metric.specs.Weight.{weights}
-use Rattle.field.specs.Grid.{ofMetric, ofWeights, ofJunctions, ofTags}
+use Rattle.grid.specs.Grid.{ofMetric, ofWeights, ofJunctions, ofTags}
 use Rattle.block.specs.Block.{pictureJunctions, pictureTags, blockOf}
 use Rattle.block.specs.Store.{third}
 

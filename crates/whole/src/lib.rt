@@ -1,7 +1,7 @@
 // Whole pictures: three-times and nine-times, into buffers that the caller lends.
 use block::passes;
 use block::store::put_rect;
-use field::grid::Grid;
+use grid::Grid;
 ghost use mathlib.Core.Path.{_≡_};
 ghost use Prim.Native.Nat.{_≤_};
 ghost use lib.ListN.{length};

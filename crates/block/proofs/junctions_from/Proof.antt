@@ -2,7 +2,7 @@
 use mathlib.Core.Path.{sym}
 use native.Mathlib.Omega.{arith}
 use lib.Seq.{length-take-le}
-use Rattle.field.specs.Room.{held-take}
+use Rattle.grid.specs.Room.{held-take}
 use Rattle.block.proofs.Parts.{held-rest, whole-rest}
 use borrow.Author.Needs.{needs}
 use Rattle.block.proofs.junctions_from.Statement.{statement}

@@ -1,7 +1,7 @@
 -- `block::ring` meets its contract, side by side. Assumes nothing.
 use mathlib.Core.Path.{_≡_}
 use Prim.Native.Nat.{ℕ, _+_, _-_, min}
-use Rattle.field.specs.declared.grid.Grid.{Grid}
+use Rattle.grid.specs.declared.Grid.{Grid}
 use Rattle.block.specs.Window.{ringOf}
 use borrow.Author.Needs.{needs}
 use Rattle.block.proofs.ring.Statement.{statement}

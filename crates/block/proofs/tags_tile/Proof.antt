@@ -3,7 +3,7 @@ use lib.Dec.{lit≤}
 use mathlib.Core.Path.{_≡_}
 use Prim.Native.Nat.{ℕ}
 use Rattle.picture.specs.Picture.{words}
-use Rattle.field.specs.declared.grid.Grid.{Grid}
+use Rattle.grid.specs.declared.Grid.{Grid}
 use Rattle.block.specs.Window.{Rooms}
 use Rattle.block.specs.Passes.{tile-rooms, tile-tagged}
 use borrow.Author.Needs.{needs}

@@ -4,8 +4,9 @@ use native.Mathlib.Omega.{arith}
 use mathlib.Core.Path.{_∙_}
 use lib.IntN.{pos, negsuc}
 use Rattle.junction.specs.Junction.{junctions}
-use Rattle.field.specs.Grid.{metricField, weightsField}
-use Rattle.field.proofs.Reading.{held-at, near-at, junctions-same}
+use Rattle.grid.specs.Grid.{metricField, weightsField}
+use Rattle.grid.proofs.Reading.{held-at, near-at}
+use Rattle.field.proofs.Same.{junctions-same}
 use Rattle.field.proofs.junctions_at.Statement.{statement}
 use Rattle.field.proofs.junctions_at.Tie as tie
 

@@ -8,10 +8,10 @@ use native.Mathlib.Nat.{zero-mul}
 use lib.Ieee.{Float}
 use Rattle.picture.specs.Fill.{Filled, fill-none, fill-more, fill-done, chunk, add-one-mul}
 use Rattle.junction.specs.Junction.{junctions}
-use Rattle.field.specs.declared.grid.Grid.{Grid}
-use Rattle.field.specs.Grid.{ofJunctions, metricField, weightsField, rowOf, rectOf}
-use Rattle.field.specs.Room.{feeds-at}
-use Rattle.field.specs.Kept.{row-length}
+use Rattle.grid.specs.declared.Grid.{Grid}
+use Rattle.grid.specs.Grid.{ofJunctions, metricField, weightsField, rowOf, rectOf}
+use Rattle.grid.specs.Room.{feeds-at}
+use Rattle.grid.specs.Kept.{row-length}
 use Rattle.field.proofs.junctions_rect.Statement.{statement}
 use Rattle.field.proofs.junctions_rect.Tie as tie
 

@@ -6,9 +6,9 @@ use Prim.Native.Nat.{ℕ, _+_, _*_, _-_, _≤_}
 use lib.Ieee.{Float}
 use Rattle.picture.specs.Fill.{Filled, fill-none, fill-more, fill-done}
 use Rattle.junction.specs.Junction.{junctions}
-use Rattle.field.specs.declared.grid.Grid.{Grid}
-use Rattle.field.specs.Grid.{ofJunctions, metricField, weightsField, rowOf}
-use Rattle.field.specs.Room.{reads-at}
+use Rattle.grid.specs.declared.Grid.{Grid}
+use Rattle.grid.specs.Grid.{ofJunctions, metricField, weightsField, rowOf}
+use Rattle.grid.specs.Room.{reads-at}
 use Rattle.field.proofs.junctions_row.Statement.{statement}
 use Rattle.field.proofs.junctions_row.Tie as tie
 

@@ -4,7 +4,8 @@ use mathlib.Core.Path.{_∙_}
 use lib.IntN.{pos, negsuc}
 use Rattle.picture.specs.Picture.{words}
 use Rattle.metric.specs.Metric.{metrics}
-use Rattle.field.proofs.Reading.{near-at, metric-same}
+use Rattle.grid.proofs.Reading.{near-at}
+use Rattle.field.proofs.Same.{metric-same}
 use Rattle.field.proofs.metric_at.Statement.{statement}
 use Rattle.field.proofs.metric_at.Tie as tie
 

@@ -9,9 +9,9 @@ use lib.Ieee.{Float, nan}
 use Rattle.picture.specs.Picture.{words}
 use Rattle.picture.specs.Fill.{Filled, fill-none, fill-more, fill-done, chunk, add-one-mul}
 use Rattle.metric.specs.Metric.{metrics}
-use Rattle.field.specs.declared.grid.Grid.{Grid}
-use Rattle.field.specs.Grid.{ofMetric, rowOf, rectOf}
-use Rattle.field.specs.Kept.{row-length}
+use Rattle.grid.specs.declared.Grid.{Grid}
+use Rattle.grid.specs.Grid.{ofMetric, rowOf, rectOf}
+use Rattle.grid.specs.Kept.{row-length}
 use Rattle.field.proofs.metrics_rect.Statement.{statement}
 use Rattle.field.proofs.metrics_rect.Tie as tie
 

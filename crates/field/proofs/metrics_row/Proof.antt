@@ -7,7 +7,7 @@ use lib.Ieee.{Float}
 use Rattle.picture.specs.Picture.{words}
 use Rattle.picture.specs.Fill.{Filled, fill-none, fill-more, fill-done}
 use Rattle.metric.specs.Metric.{metrics}
-use Rattle.field.specs.Grid.{ofMetric, rowOf}
+use Rattle.grid.specs.Grid.{ofMetric, rowOf}
 use Rattle.field.proofs.metrics_row.Statement.{statement}
 use Rattle.field.proofs.metrics_row.Tie as tie
 

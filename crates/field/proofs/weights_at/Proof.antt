@@ -4,8 +4,9 @@ use native.Mathlib.Omega.{arith}
 use mathlib.Core.Path.{_∙_}
 use lib.IntN.{pos, negsuc}
 use Rattle.metric.specs.Weight.{weights}
-use Rattle.field.specs.Grid.{metricField}
-use Rattle.field.proofs.Reading.{held-at, near-at, weights-same}
+use Rattle.grid.specs.Grid.{metricField}
+use Rattle.grid.proofs.Reading.{held-at, near-at}
+use Rattle.field.proofs.Same.{weights-same}
 use Rattle.field.proofs.weights_at.Statement.{statement}
 use Rattle.field.proofs.weights_at.Tie as tie
 

@@ -9,10 +9,10 @@ use lib.Ieee.{Float, nan}
 use lib.ListN.{take}
 use Rattle.picture.specs.Fill.{Filled, fill-none, fill-more, fill-done, fill-take, chunk, add-one-mul}
 use Rattle.metric.specs.Weight.{weights}
-use Rattle.field.specs.declared.grid.Grid.{Grid}
-use Rattle.field.specs.Grid.{ofWeights, metricField, rowOf, rectOf}
-use Rattle.field.specs.Room.{feeds-at}
-use Rattle.field.specs.Kept.{row-length}
+use Rattle.grid.specs.declared.Grid.{Grid}
+use Rattle.grid.specs.Grid.{ofWeights, metricField, rowOf, rectOf}
+use Rattle.grid.specs.Room.{feeds-at}
+use Rattle.grid.specs.Kept.{row-length}
 use Rattle.field.proofs.weights_rect.Statement.{statement}
 use Rattle.field.proofs.weights_rect.Tie as tie
 

@@ -9,9 +9,9 @@ use lib.ListN.{take}
 use lib.Seq.{length-take-le}
 use Rattle.picture.specs.Fill.{Filled, fill-none, fill-more, fill-done, fill-take}
 use Rattle.metric.specs.Weight.{weights}
-use Rattle.field.specs.declared.grid.Grid.{Grid}
-use Rattle.field.specs.Grid.{ofWeights, metricField, rowOf}
-use Rattle.field.specs.Room.{reads-at, held-take}
+use Rattle.grid.specs.declared.Grid.{Grid}
+use Rattle.grid.specs.Grid.{ofWeights, metricField, rowOf}
+use Rattle.grid.specs.Room.{reads-at, held-take}
 use Rattle.field.proofs.weights_row.Statement.{statement}
 use Rattle.field.proofs.weights_row.Tie as tie
 

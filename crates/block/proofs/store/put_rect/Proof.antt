@@ -6,7 +6,7 @@ use mathlib.Core.List.{List}
 use Prim.Native.Nat.{ℕ, _+_, _*_, _-_, _≤_}
 use Rattle.picture.specs.Picture.{words}
 use Rattle.picture.specs.Fill.{chunk, add-one-mul}
-use Rattle.field.specs.Grid.{tagsAt}
+use Rattle.grid.specs.Grid.{tagsAt}
 use Rattle.block.specs.Block.{blockFrom}
 use Rattle.block.specs.StoreLaws.{Rected, rected-none, rected-more, rected-done}
 use borrow.Author.Needs.{needs}

@@ -4,7 +4,7 @@ use mathlib.Core.Path.{_≡_, _∙_, ap}
 use mathlib.Core.List.{List}
 use Prim.Native.Nat.{ℕ, _+_, _*_, _-_, _≤_}
 use Rattle.picture.specs.Picture.{words}
-use Rattle.field.specs.Grid.{tagsAt}
+use Rattle.grid.specs.Grid.{tagsAt}
 use Rattle.block.specs.Block.{blockFrom}
 use Rattle.block.specs.StoreLaws.{Rowed, rowed-none, rowed-more, rowed-done}
 use borrow.Author.Needs.{needs}

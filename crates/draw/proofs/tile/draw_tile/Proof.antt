@@ -7,7 +7,7 @@ use native.Mathlib.Omega.{arith}
 use borrow.Author.Needs.{needs}
 use lib.ListN.{length, take, drop, replicate, length-replicate}
 use Rattle.picture.specs.Picture.{words}
-use Rattle.field.specs.Grid.{tagsAt}
+use Rattle.grid.specs.Grid.{tagsAt}
 use Rattle.block.specs.Block.{blockFrom}
 use Rattle.block.specs.Store.{RectRoom, putRect}
 use Rattle.three.proofs.Tiles.{tile-drawn}

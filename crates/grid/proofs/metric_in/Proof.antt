@@ -1,0 +1,27 @@
+-- `grid::metric_in` meets its contract. Assumes nothing.
+use borrow.Author.Needs.{needs}
+use native.Mathlib.Omega.{arith}
+use Rattle.grid.specs.Grid.{metricField}
+use Rattle.grid.specs.Kept.{start-in}
+use Rattle.grid.proofs.metric_in.Statement.{statement}
+use Rattle.grid.proofs.metric_in.Tie as tie
+use Rattle.grid.proofs.metric_in.Reads as reads
+use Rattle.grid.proofs.metric_in.Lts as lts
+use Rattle.grid.proofs.load_metric.Reads as load-metric-reads
+use Rattle.grid.proofs.start.Reads as start-reads
+
+-- src/grid.rt:83:20
+start-requires : tie.Need-start-requires
+start-requires c κs = search needs
+
+-- src/grid.rt:83:5
+load-metric-requires : tie.Need-load-metric-requires
+load-metric-requires c κs = omega (arith, start-in (c .before .before .args .g) (c .before .before .args .x) (c .before .before .args .y) (c .before .before .pre .0), c .start .ensures)
+
+-- src/grid.rt:79:1
+returns : tie.Need-returns
+unfolding metricField
+returns c = rw (c .before .start .ensures) at (c .load-metric .ensures)
+
+pub metric-in-spec : {M : Type 1} → statement M
+metric-in-spec = tie.close (tie.spec start-requires load-metric-requires returns)

@@ -1,0 +1,113 @@
+-- `tagged::tags_rect` meets its contract: the invariant says that the first y rows stand from the cut on. Assumes nothing.
+use borrow.Author.Needs.{needs}
+use native.Mathlib.Omega.{arith}
+use mathlib.Core.Path.{_≡_, refl, ap}
+use mathlib.Core.List.{List}
+use Prim.Native.Nat.{ℕ, _+_, _*_, _-_, _≤_}
+use native.Mathlib.Nat.{zero-mul}
+use lib.ListN.{take}
+use Rattle.picture.specs.Fill.{Filled, fill-none, fill-more, fill-done, fill-take, chunk, add-one-mul}
+use Rattle.tag.specs.Tag.{tags}
+use Rattle.grid.specs.declared.Grid.{Grid}
+use Rattle.grid.specs.Grid.{ofTags, junctionsField, rowOf, rectOf}
+use Rattle.grid.specs.Room.{feeds-at}
+use Rattle.grid.specs.Kept.{row-length}
+use Rattle.tagged.proofs.tags_rect.Statement.{statement}
+use Rattle.tagged.proofs.tags_rect.Tie as tie
+
+-- each row of the rectangle, from what l holds
+abbrev lines : List ℕ → Grid → ℕ → ℕ → Grid → ℕ → ℕ → List ℕ
+lines l g w h q y0 j = rowOf ofTags q (tags w h (junctionsField g l)) (y0 + j)
+
+abbrev Inv-loop : tie.InvT-loop
+Inv-loop bytes₀ cut g w h q cols rows y0 y₀ at₀ bytes y at =
+    (y ≤ rows) × (at ≡ cut + y * (cols * 4)) × Filled cut (cols * 4) y (lines (take cut bytes₀) g w h q y0) bytes₀ bytes
+
+abbrev μ-loop : tie.MeasureT-loop
+μ-loop bytes₀ cut g w h q cols rows y0 y₀ at₀ bytes y at = rows - y
+
+loop-holds : tie.Need-loop-holds Inv-loop μ-loop
+loop-holds c =
+    let a = c .before .args in (
+      omega arith,
+      omega (arith, zero-mul (a .q .cols * 4)),
+      fill-none (a .cut) (a .q .cols * 4)
+          (lines (take (a .cut) (a .bytes .now)) (a .g) (a .w) (a .h) (a .q) (a .q .y0)) (a .bytes .now) (omega arith),
+    )
+
+-- in a turn the row has room
+room : (c : tie.In-loop Inv-loop μ-loop)
+    → c .before .loop .y * (c .before .before .before .args .q .cols * 4) + c .before .before .before .args .q .cols * 4
+    ≤ c .before .before .before .args .q .rows * (c .before .before .before .args .q .cols * 4)
+room c = chunk (c .before .loop .y) (c .before .before .before .args .q .rows) (c .before .before .before .args .q .cols * 4) (c .loop-test .taken)
+
+add-tags-row : tie.Need-add-tags-row Inv-loop μ-loop
+add-tags-row c = omega arith
+
+tags-row-requires : tie.Need-tags-row-requires Inv-loop μ-loop
+tags-row-requires c κs =
+    let a = c .before .before .before .before .args in
+    let p = c .before .before .before .before .pre in
+    let s = c .before .before .loop in
+    let t = c .before .loop-test .taken in
+    (p .0, (omega arith, (feeds-at 3 3 (a .g) (a .w) (a .h) (a .q) (p .1 .0) (s .y) t, omega (arith, room (c .before)))))
+
+cast-at : tie.Need-cast-at Inv-loop μ-loop
+cast-at c = search needs
+
+mul-at : tie.Need-mul-at Inv-loop μ-loop
+mul-at c = omega arith
+
+add-at : tie.Need-add-at Inv-loop μ-loop
+add-at c = omega (arith, room (c .before .before .before .before))
+
+add-y : tie.Need-add-y Inv-loop μ-loop
+add-y c = omega arith
+
+loop-less : tie.Need-loop-less Inv-loop μ-loop
+loop-less c = omega arith
+
+loop-again : tie.Need-loop-again Inv-loop μ-loop
+loop-again c =
+    let at-loop = c .before .before .before .before .before in
+    let s = at-loop .loop in
+    let a = at-loop .before .before .args in
+    let k = a .q .cols * 4 in
+    let r = lines (take (a .cut) (a .bytes .now)) (a .g) (a .w) (a .h) (a .q) (a .q .y0) in
+    let old = fill-take (a .cut) (a .cut) k (s .y) r (a .bytes .now) (s .bytes) (omega arith) (omega arith) (s .inv .2) in (
+      omega arith,
+      omega (arith, add-one-mul (s .y) k),
+      fill-more (a .cut) k (s .y) r (a .bytes .now) (s .bytes) (c .before .before .tags-row .last .0) (s .at) (lines (take (a .cut) (s .bytes)) (a .g) (a .w) (a .h) (a .q) (a .q .y0) (s .y))
+          (λ j. row-length 0 ofTags (λ r. refl) (a .q) (tags (a .w) (a .h) (junctionsField (a .g) (take (a .cut) (a .bytes .now)))) (a .q .y0 + j))
+          (omega (arith, room (c .before .before .before .before))) (s .inv .2) (s .inv .1)
+          (ap (λ (z : List ℕ). lines z (a .g) (a .w) (a .h) (a .q) (a .q .y0) (s .y)) old) (c .before .before .tags-row .ensures),
+    )
+
+same-length : tie.Need-same-length Inv-loop μ-loop
+same-length c = c .before .loop .inv .2 .long
+
+returns : tie.Need-returns Inv-loop μ-loop
+unfolding rectOf
+returns c =
+    let a = c .before .before .before .args in
+    let s = c .before .loop in
+    fill-done (a .cut) (a .q .cols * 4) (s .y) (a .q .rows) (lines (take (a .cut) (a .bytes .now)) (a .g) (a .w) (a .h) (a .q) (a .q .y0)) (a .bytes .now) (s .bytes)
+    (s .inv .2) (omega arith)
+
+pub tags-rect-spec : {M : Type 1} → statement M
+tags-rect-spec =
+    tie.close
+    (tie.spec
+    Inv-loop
+    μ-loop
+    loop-holds
+    add-tags-row
+    tags-row-requires
+    cast-at
+    mul-at
+    add-at
+    add-y
+    loop-less
+    loop-again
+    same-length
+    returns)
