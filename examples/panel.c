@@ -1,20 +1,71 @@
 /*
- * A small session, a whole picture and a page file, through the C face.
- * Build: gcc -std=c99 -Wall -Wextra -Iinclude examples/panel.c target/staticlib/libpanel.a -o panel
+ * A small session, a whole picture three and nine times, and a page file, through the C face. Every answer is held to
+ * what it must be; the first that is not ends the program with status 1 and a line that says where.
+ * Build in the repository: gcc -std=c99 -Iinclude examples/panel.c target/staticlib/libpanel.a -lm -o panel
+ * Build in the archive:    gcc -std=c99 -Iinclude examples/panel.c lib/libpanel.a -lm -o panel
+ * -lm is for fegetround, which this program calls; the library does not need it.
  */
+#include <fenv.h>
 #include <inttypes.h>
 #include <stdio.h>
+#include <stdlib.h>
+#include <string.h>
+#include <xmmintrin.h>
 
 #include "panel.h"
 
-enum { W = 8, H = 6, PIXELS = W * H };
+enum { W = 8, H = 6, PIXELS = PANEL_PICTURE_LEN(W, H) };
 
 /* The control's page: a white field with one black diagonal. */
-static uint32_t picture[PIXELS];
-static uint32_t output[9 * PIXELS];
-static uint8_t marks[PIXELS];
-static float singles[8 * PIXELS];
-static uint8_t bytes[8 * PIXELS];
+static uint32_t picture[PANEL_PICTURE_LEN(W, H)];
+static uint32_t output[PANEL_OUTPUT_LEN(W, H)];
+static uint8_t marks[PANEL_MARKS_LEN(W, H)];
+static float singles[PANEL_SINGLES_LEN(W, H)];
+static uint8_t bytes[PANEL_BYTES_LEN(W, H)];
+
+static uint32_t output9[PANEL_OUTPUT9_LEN(W, H)];
+static uint32_t middle9[PANEL_MIDDLE9_LEN(W, H)];
+static float singles9[PANEL_SINGLES9_LEN(W, H)];
+static uint8_t bytes9[PANEL_BYTES9_LEN(W, H)];
+
+static uint32_t header[PANEL_HEADER_LEN];
+
+#define EXPECT(condition) expect(condition, #condition, __LINE__)
+
+static void expect(int holds, const char *condition, int line)
+{
+    if (holds)
+        return;
+    fprintf(stderr, "panel.c, line %d: not as expected: %s\n", line, condition);
+    exit(EXIT_FAILURE);
+}
+
+/* MXCSR without its six status flags, which a call may leave set. */
+static unsigned control(void)
+{
+    return _mm_getcsr() & ~0x3fu;
+}
+
+/* What the library takes for granted. fegetround may read the x87 unit alone, and the library computes with SSE2: MXCSR
+   too must have all exceptions masked, rounding to nearest, and nothing flushed to 0. */
+static void environment(void)
+{
+    EXPECT(fegetround() == FE_TONEAREST);
+    EXPECT(control() == 0x1f80u);
+}
+
+/* The library is that of the header, and the header's string spells its number. */
+static void version(void)
+{
+    uint32_t number = panel_version();
+    char spelled[32];
+
+    EXPECT(number == PANEL_VERSION);
+    snprintf(spelled, sizeof spelled, "%" PRIu32 ".%" PRIu32 ".%" PRIu32, number / 10000, number / 100 % 100,
+             number % 100);
+    EXPECT(strcmp(spelled, PANEL_VERSION_STRING) == 0);
+    printf("version: as the header has it\n");
+}
 
 static void draw_picture(void)
 {
@@ -32,71 +83,172 @@ static void print_output(void)
     }
 }
 
-static void session(void)
+static uint32_t open_session(uint32_t *stale)
 {
-    uint32_t header[2], stale, changed, drawn, left, words[9];
+    return panel_open(W, H, picture, PANEL_PICTURE_LEN(W, H), output, PANEL_OUTPUT_LEN(W, H), marks,
+                      PANEL_MARKS_LEN(W, H), header, stale);
+}
 
-    printf("open: refusal %" PRIu32, panel_open(W, H, picture, PIXELS, output, 9 * PIXELS, marks, PIXELS, header, &stale));
-    printf(", header %" PRIu32 " by %" PRIu32 ", %" PRIu32 " stale\n", header[0], header[1], stale);
-    printf("show (2, 2): refusal %" PRIu32 "\n", panel_show(header, output, 9 * PIXELS, marks, PIXELS, 2, 2, words));
+static uint32_t refresh(uint32_t n, uint32_t *drawn, uint32_t *left)
+{
+    return panel_refresh(header, picture, PANEL_PICTURE_LEN(W, H), output, PANEL_OUTPUT_LEN(W, H), marks,
+                         PANEL_MARKS_LEN(W, H), n, drawn, left);
+}
 
-    /* a slow loop draws ten blocks at a time */
+static uint32_t paint(uint32_t column, uint32_t row, uint32_t word, uint32_t *changed, uint32_t *stale)
+{
+    return panel_paint(header, picture, PANEL_PICTURE_LEN(W, H), marks, PANEL_MARKS_LEN(W, H), column, row, word,
+                       changed, stale);
+}
+
+static uint32_t show(uint32_t bx, uint32_t by, uint32_t words[PANEL_BLOCK_WORDS])
+{
+    return panel_show(header, output, PANEL_OUTPUT_LEN(W, H), marks, PANEL_MARKS_LEN(W, H), bx, by, words);
+}
+
+/* A session is opened, and a slow loop draws ten blocks at a time. */
+static void first_drawing(void)
+{
+    uint32_t refusal, stale, drawn, left, words[PANEL_BLOCK_WORDS], before = PIXELS;
+
+    refusal = open_session(&stale);
+    EXPECT(refusal == PANEL_NONE);
+    EXPECT(header[PANEL_HEADER_W] == W && header[PANEL_HEADER_H] == H && stale == PIXELS);
+    printf("open: refusal %" PRIu32 ", header %" PRIu32 " by %" PRIu32 ", %" PRIu32 " stale\n", refusal,
+           header[PANEL_HEADER_W], header[PANEL_HEADER_H], stale);
+    refusal = show(2, 2, words);
+    EXPECT(refusal == PANEL_STALE);
+    for (size_t i = 0; i < PANEL_BLOCK_WORDS; i++)
+        EXPECT(words[i] == 0);
+    printf("show (2, 2): refusal %" PRIu32 "\n", refusal);
     do {
-        panel_refresh(header, picture, PIXELS, output, 9 * PIXELS, marks, PIXELS, 10, &drawn, &left);
+        EXPECT(refresh(10, &drawn, &left) == PANEL_NONE);
+        EXPECT(drawn == (before < 10 ? before : 10) && left == before - drawn);
         printf("refresh: %" PRIu32 " drawn, %" PRIu32 " left\n", drawn, left);
+        before = left;
     } while (left != 0);
+}
 
-    panel_show(header, output, 9 * PIXELS, marks, PIXELS, 2, 2, words);
+/* A block is on the diagonal: its words are the page's two. */
+static void show_block(void)
+{
+    static const uint32_t expected[PANEL_BLOCK_WORDS] = {0, 0, 0xffffffu, 0, 0, 0, 0xffffffu, 0, 0};
+    uint32_t words[PANEL_BLOCK_WORDS];
+
+    EXPECT(show(2, 2, words) == PANEL_NONE);
+    EXPECT(memcmp(words, expected, sizeof words) == 0);
     printf("show (2, 2):");
-    for (int i = 0; i < 9; i++)
+    for (size_t i = 0; i < PANEL_BLOCK_WORDS; i++)
         printf(" %08" PRIx32, words[i]);
     putchar('\n');
+    EXPECT(show(W, 2, words) == PANEL_OUTSIDE);
+}
 
-    panel_paint(header, picture, PIXELS, marks, PIXELS, 7, 0, 0x00ffffffu, &changed, &stale);
+/* A paint, and a refresh of all that it made stale: columns 1 to 7 of rows 0 to 5, the sixth beside and below. */
+static void change(void)
+{
+    uint32_t refusal, stale, changed, drawn, left;
+
+    EXPECT(paint(7, 0, 0x00ffffffu, &changed, &stale) == PANEL_NONE);
+    EXPECT(changed == 0 && stale == 0);
     printf("paint of an equal word: changed %" PRIu32 ", %" PRIu32 " stale\n", changed, stale);
-    panel_paint(header, picture, PIXELS, marks, PIXELS, 7, 0, 0x00c00000u, &changed, &stale);
+    EXPECT(paint(7, 0, 0x00c00000u, &changed, &stale) == PANEL_NONE);
+    EXPECT(changed == 1 && stale == 42 && picture[7] == 0x00c00000u);
     printf("paint of another word: changed %" PRIu32 ", %" PRIu32 " stale\n", changed, stale);
-    printf("paint outside: refusal %" PRIu32 "\n",
-           panel_paint(header, picture, PIXELS, marks, PIXELS, 8, 0, 0, &changed, &stale));
-    panel_refresh(header, picture, PIXELS, output, 9 * PIXELS, marks, PIXELS, UINT32_MAX, &drawn, &left);
+    refusal = paint(W, 0, 0, &changed, &stale);
+    EXPECT(refusal == PANEL_OUTSIDE && changed == 0 && stale == 0);
+    printf("paint outside: refusal %" PRIu32 "\n", refusal);
+    EXPECT(refresh(UINT32_MAX, &drawn, &left) == PANEL_NONE);
+    EXPECT(drawn == 42 && left == 0);
     printf("refresh: %" PRIu32 " drawn, %" PRIu32 " left\n", drawn, left);
 }
 
+static uint32_t scale_with(size_t bytes_len)
+{
+    return panel_scale(W, H, picture, PANEL_PICTURE_LEN(W, H), output, PANEL_OUTPUT_LEN(W, H), singles,
+                       PANEL_SINGLES_LEN(W, H), bytes, bytes_len);
+}
+
+/* What the session has drawn is what scale draws. */
 static void whole(void)
 {
-    printf("scale: refusal %" PRIu32 "\n",
-           panel_scale(W, H, picture, PIXELS, output, 9 * PIXELS, singles, 8 * PIXELS, bytes, 8 * PIXELS));
+    static uint32_t drawn[PANEL_OUTPUT_LEN(W, H)];
+    uint32_t refusal;
+
+    memcpy(drawn, output, sizeof drawn);
+    memset(output, 0x55, sizeof output);
+    refusal = scale_with(PANEL_BYTES_LEN(W, H));
+    EXPECT(refusal == PANEL_NONE && memcmp(drawn, output, sizeof drawn) == 0);
+    printf("scale: refusal %" PRIu32 "\n", refusal);
     print_output();
-    printf("scale on one byte less: refusal %" PRIu32 "\n",
-           panel_scale(W, H, picture, PIXELS, output, 9 * PIXELS, singles, 8 * PIXELS, bytes, 8 * PIXELS - 1));
+    refusal = scale_with(PANEL_BYTES_LEN(W, H) - 1);
+    EXPECT(refusal == PANEL_SCRATCH && memcmp(drawn, output, sizeof drawn) == 0);
+    printf("scale on one byte less: refusal %" PRIu32 "\n", refusal);
+}
+
+static uint32_t scale9x(uint32_t w)
+{
+    return panel_scale9x(w, H, picture, PANEL_PICTURE_LEN(W, H), output9, PANEL_OUTPUT9_LEN(W, H), middle9,
+                         PANEL_MIDDLE9_LEN(W, H), singles9, PANEL_SINGLES9_LEN(W, H), bytes9, PANEL_BYTES9_LEN(W, H));
+}
+
+/* The middle is what scale draws, and the output what scale draws of the middle. */
+static void nine(void)
+{
+    static uint32_t twice[PANEL_OUTPUT_LEN(3 * W, 3 * H)];
+    uint32_t refusal = scale9x(W);
+
+    EXPECT(refusal == PANEL_NONE && memcmp(middle9, output, sizeof middle9) == 0);
+    printf("scale9x: refusal %" PRIu32 "\n", refusal);
+    refusal = panel_scale(3 * W, 3 * H, output, PANEL_PICTURE_LEN(3 * W, 3 * H), twice, PANEL_OUTPUT_LEN(3 * W, 3 * H),
+                          singles9, PANEL_SINGLES_LEN(3 * W, 3 * H), bytes9, PANEL_BYTES_LEN(3 * W, 3 * H));
+    EXPECT(refusal == PANEL_NONE && sizeof twice == sizeof output9 && memcmp(twice, output9, sizeof twice) == 0);
+    EXPECT(scale9x(PANEL_SIDE_9X + 1) == PANEL_SIDE && memcmp(twice, output9, sizeof twice) == 0);
 }
 
 static void page(void)
 {
     static const uint8_t file[] = {0x33, 0x22, 0x11, 0x00, 1, 0, 1, 0, 16, 0, 0, 0, 0x50, 0x41, 0x47, 0x45};
-    uint32_t w, h, word[1];
+    uint32_t refusal, w, h, word[1];
 
-    printf("page: refusal %" PRIu32, panel_read_page(file, sizeof file, word, 1, &w, &h));
-    printf(", %" PRIu32 " by %" PRIu32 ", %08" PRIx32 "\n", w, h, word[0]);
-    printf("page without its last byte: refusal %" PRIu32 "\n", panel_read_page(file, sizeof file - 1, word, 1, &w, &h));
+    refusal = panel_read_page(file, sizeof file, word, 1, &w, &h);
+    EXPECT(refusal == PANEL_NONE && w == 1 && h == 1 && word[0] == 0x00112233u);
+    printf("page: refusal %" PRIu32 ", %" PRIu32 " by %" PRIu32 ", %08" PRIx32 "\n", refusal, w, h, word[0]);
+    refusal = panel_read_page(file, sizeof file - 1, word, 1, &w, &h);
+    EXPECT(refusal == PANEL_TRAILER && w == 0 && h == 0 && word[0] == 0x00112233u);
+    printf("page without its last byte: refusal %" PRIu32 "\n", refusal);
 }
 
 static void numbers(void)
 {
-    float root;
+    uint32_t refusal;
+    float root, distance;
 
-    printf("root of 2: refusal %" PRIu32, panel_root(2.0f, &root));
-    printf(", %.9g\n", (double)root);
-    printf("root of -1: refusal %" PRIu32 "\n", panel_root(-1.0f, &root));
-    printf("distance of black and white: %.9g\n", (double)panel_distance(0x00000000u, 0x00ffffffu));
+    refusal = panel_root(2.0f, &root);
+    EXPECT(refusal == PANEL_NONE && root == 1.41421354f);
+    printf("root of 2: refusal %" PRIu32 ", %.9g\n", refusal, (double)root);
+    refusal = panel_root(-1.0f, &root);
+    EXPECT(refusal == PANEL_OPERAND && root == 0.0f);
+    printf("root of -1: refusal %" PRIu32 "\n", refusal);
+    EXPECT(panel_distance(0x00112233u, 0xff112233u) == 0.0f);
+    distance = panel_distance(0x00000000u, 0x00ffffffu);
+    EXPECT(distance == 1.0f);
+    printf("distance of black and white: %.9g\n", (double)distance);
 }
 
 int main(void)
 {
+    environment();
+    version();
     draw_picture();
-    session();
+    first_drawing();
+    show_block();
+    change();
     whole();
+    nine();
     page();
     numbers();
+    /* nothing but status flags was left in the floating-point unit */
+    environment();
     return 0;
 }

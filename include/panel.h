@@ -1,20 +1,21 @@
 /*
  * panel: enlarges small pictures three or nine times by ScaleFX, at once or block by block as they change.
- * Link with libpanel.a (rt staticlib panel). The library uses no heap and keeps no state of its own: all that
- * it reads and writes is lent by the caller, for the time of the call. The only symbol that it needs from outside
- * is memset; its deepest call, panel_refresh, takes less than 10 KiB of stack.
+ * Link with libpanel.a (rt staticlib panel, or the archive's lib/). The library uses no heap and keeps no state of its
+ * own: all that it reads and writes is lent by the caller, for the time of the call, so calls on different buffers may
+ * run at the same time. PANEL_STACK_BYTES below is the stack to keep free.
  *
  * Pictures. A picture is w columns by h rows of 32-bit words, row by row from the top left; wh stands below for
  * w times h. In a word red is bits 16 to 23, green 8 to 15, blue 0 to 7. The top byte is carried from the picture
  * to the output and never compared. w or h may be 0.
  *
  * Buffers. Each buffer is a pointer and its length, IN ELEMENTS, not in bytes. A buffer may be longer than the
- * call needs: elements past the stated number stay untouched. No pointer may be null, also where a length is 0;
- * pointers are aligned for their type; what a call writes may not overlap anything else that it is lent.
+ * call needs: elements past the stated number stay untouched. Nothing is asked of the caller but this: each pointer
+ * is valid for its stated length, aligned for its type and not null, also where a length is 0; and what a call writes
+ * does not overlap anything else that it is lent.
  *
- * Answers. Every call but panel_distance returns 0, or the number of a refusal. A refused call changes no buffer,
- * and writes 0 through each pointer to a number that it would have answered. Every condition is checked, and there
- * is no input for which a call does not answer.
+ * Answers. Every call but panel_distance and panel_version returns 0, or the number of a refusal. A refused call
+ * changes no buffer, and writes 0 through each pointer to a number that it would have answered. Every condition is
+ * checked, and there is no input for which a call does not answer.
  *
  *   1  a side is past its limit
  *   2  the picture buffer is short
@@ -26,6 +27,27 @@
  *   8  the file is under 12 bytes, its last four bytes are wrong, or its back is wrong or past the file
  *
  * Where several hold, the first in the order 1, 2, 3, 4, 5, 7 is returned (panel_read_page: 8, 1, 2).
+ *
+ * Machine. The library is for x86-64 with SSE2, called by the System V ABI, size_t having 64 bits. Its code is
+ * position independent. The only symbol that it needs from outside is memset. The toolchain makes no code for ARM
+ * today.
+ *
+ * Floating point. The library computes in IEEE 754 single precision with SSE2. It takes for granted that MXCSR is set
+ * as at a program's start: rounding to nearest, all exceptions masked, denormals not flushed (FTZ and DAZ off). With
+ * another setting a call may answer other words and numbers, or raise a signal. A call may leave status flags set,
+ * also those of operations that no answer rests on (an unused lane of a vector may divide 0 by 0); it changes nothing
+ * else in MXCSR.
+ *
+ * Costs of a session. An opening writes the whole output, with 0, and all marks. A paint counts all marks once (wh
+ * bytes are read), also where the word is equal; a changed pixel makes at most 13 by 12, which is 156, blocks stale.
+ * A refresh counts all marks once too, and reads them again row by row, all of them or up to the block where a slice
+ * ends. A refresh in slices of n counts all marks once more for each slice. Where n is at least the number of stale
+ * blocks, they are drawn in rectangles of up to 16 by 8, which share work; a slice that leaves some stale draws runs
+ * of up to 16 in one row, which share less. Measured at 256 by 256 (docs/PERFORMANCE.md of the repository), on a page
+ * of text and on noise: the first refresh of everything took a little more than twice as long as panel_scale; one
+ * changed pixel, its paint and its refresh, took about a hundredth of panel_scale. So, where most of a page changes,
+ * do not paint every pixel: store the words in the picture and open anew, which takes one opening and one refresh of
+ * everything.
  */
 #ifndef PANEL_H
 #define PANEL_H
@@ -36,6 +58,16 @@
 #ifdef __cplusplus
 extern "C" {
 #endif
+
+/* The version of this header: major * 10000 + minor * 100 + patch, and the three with points between. */
+#define PANEL_VERSION 100u
+#define PANEL_VERSION_STRING "0.1.0"
+
+/*
+ * No call takes more bytes of stack than this. It is measured, not proved: examples/stack.c, with what memset of the C
+ * library takes counted, and without what a dynamic linker takes that looks memset up at its first call.
+ */
+#define PANEL_STACK_BYTES 20480u
 
 #define PANEL_NONE 0u      /* not refused */
 #define PANEL_SIDE 1u      /* a side past its limit */
@@ -49,6 +81,30 @@ extern "C" {
 
 #define PANEL_SIDE_3X 2048u /* the largest side of panel_scale, of a session and of a page */
 #define PANEL_SIDE_9X 682u  /* the largest side of panel_scale9x */
+
+/* The lengths of the buffers, in elements, for a picture of w by h. None wraps for sides up to 2 to the 28th. */
+#define PANEL_PICTURE_LEN(w, h) ((size_t)(w) * (size_t)(h))
+#define PANEL_OUTPUT_LEN(w, h) ((size_t)9 * PANEL_PICTURE_LEN(w, h))
+#define PANEL_MARKS_LEN(w, h) PANEL_PICTURE_LEN(w, h)
+#define PANEL_SINGLES_LEN(w, h) ((size_t)8 * PANEL_PICTURE_LEN(w, h))
+#define PANEL_BYTES_LEN(w, h) ((size_t)8 * PANEL_PICTURE_LEN(w, h))
+
+/* The lengths of those of panel_scale9x. */
+#define PANEL_OUTPUT9_LEN(w, h) ((size_t)81 * PANEL_PICTURE_LEN(w, h))
+#define PANEL_MIDDLE9_LEN(w, h) ((size_t)9 * PANEL_PICTURE_LEN(w, h))
+#define PANEL_SINGLES9_LEN(w, h) ((size_t)72 * PANEL_PICTURE_LEN(w, h))
+#define PANEL_BYTES9_LEN(w, h) ((size_t)72 * PANEL_PICTURE_LEN(w, h))
+
+#define PANEL_HEADER_LEN 2u  /* the numbers of a session's header */
+#define PANEL_HEADER_W 0     /* the place of w in it */
+#define PANEL_HEADER_H 1     /* the place of h in it */
+#define PANEL_BLOCK_WORDS 9u /* the words of a block */
+
+/*
+ * The version of the library, to be held to PANEL_VERSION: a program that was compiled with another header's numbers
+ * and lengths is found out at its start. Never refused.
+ */
+uint32_t panel_version(void);
 
 /*
  * The square root of a single, rounded to the nearest single.
@@ -124,7 +180,7 @@ uint32_t panel_open(uint32_t w, uint32_t h,
                     const uint32_t *picture, size_t picture_len,
                     uint32_t *output, size_t output_len,
                     uint8_t *marks, size_t marks_len,
-                    uint32_t header[2], uint32_t *stale);
+                    uint32_t header[PANEL_HEADER_LEN], uint32_t *stale);
 
 /*
  * Paints one pixel.
@@ -135,7 +191,7 @@ uint32_t panel_open(uint32_t w, uint32_t h,
  *   *stale    the number of stale blocks after the call; 0 beside a refusal
  * Refusals, in this order: 1 the header's w or h past 2048; 2; 4 marks; 5 (column, row) outside the picture.
  */
-uint32_t panel_paint(const uint32_t header[2],
+uint32_t panel_paint(const uint32_t header[PANEL_HEADER_LEN],
                      uint32_t *picture, size_t picture_len,
                      uint8_t *marks, size_t marks_len,
                      uint32_t column, uint32_t row, uint32_t word,
@@ -150,7 +206,7 @@ uint32_t panel_paint(const uint32_t header[2],
  *   *left    the number of blocks still stale; 0 beside a refusal
  * Refusals, in this order: 1 the header's w or h past 2048; 2; 3; 4 marks.
  */
-uint32_t panel_refresh(const uint32_t header[2],
+uint32_t panel_refresh(const uint32_t header[PANEL_HEADER_LEN],
                        const uint32_t *picture, size_t picture_len,
                        uint32_t *output, size_t output_len,
                        uint8_t *marks, size_t marks_len,
@@ -162,10 +218,10 @@ uint32_t panel_refresh(const uint32_t header[2],
  * Refusals, in this order: 1 the header's w or h past 2048; 3; 4 marks; 5 (bx, by) outside the picture; 7 the block
  * is stale.
  */
-uint32_t panel_show(const uint32_t header[2],
+uint32_t panel_show(const uint32_t header[PANEL_HEADER_LEN],
                     const uint32_t *output, size_t output_len,
                     const uint8_t *marks, size_t marks_len,
-                    uint32_t bx, uint32_t by, uint32_t words[9]);
+                    uint32_t bx, uint32_t by, uint32_t words[PANEL_BLOCK_WORDS]);
 
 /*
  * Reads a page file: pixels as little-endian words, then a trailer of 12 bytes at the end of the file: w and h, 16
