@@ -4,6 +4,7 @@ A picture here is (width, height, words), the words 0xTTRRGGBB row by row; the t
 """
 import os
 import re
+import signal
 import struct
 import sys
 
@@ -76,15 +77,15 @@ def read_any(data):
 
 
 def pillow():
-    """Pillow's Image. Where this interpreter has no Pillow and is not the system's, the script starts again with that one."""
+    """Pillow's Image. Where this interpreter has none and is not the system's, the script starts again with that one."""
     try:
         from PIL import Image
     except ImportError:
         if sys.executable != SYSTEM_PYTHON and os.access(SYSTEM_PYTHON, os.X_OK):
             sys.stdout.flush()
             os.execv(SYSTEM_PYTHON, [SYSTEM_PYTHON, *sys.argv])
-        here = os.path.dirname(os.path.abspath(__file__))
-        raise Broken(f'Pillow is not installed: {os.path.relpath(here)}/install installs it (Debian package python3-pil)') from None
+        install = os.path.relpath(os.path.join(os.path.dirname(os.path.abspath(__file__)), 'install'))
+        raise Broken(f'Pillow is not installed: {install} installs it (Debian package python3-pil)') from None
     return Image
 
 
@@ -101,6 +102,7 @@ def words(doc, count):
 
 def run(main, name):
     """Runs a tool's main: 0 where all went well, 1 for a refused page, 2 for what cannot be used."""
+    signal.signal(signal.SIGPIPE, signal.SIG_DFL)  # a reader that has seen enough is no failure to speak of
     try:
         main()
     except Refused as refusal:
