@@ -11,6 +11,9 @@ use Rattle.page3x.proofs.main.Tie as tie
 inside : (c : tie.After-page-text) → c .page-text .result ≤ length (c .page-text .last .1 .0)
 inside c = inside-text _ _ (c .page-text .last .1 .0) (c .page-text .result) (c .page-text .ensures)
 
+say-where-requires : tie.Need-say-where-requires
+say-where-requires c κs = search needs
+
 slice-aggregate-read-full : tie.Need-slice-aggregate-read-full
 slice-aggregate-read-full c = search needs
 
@@ -51,6 +54,7 @@ pub main-spec : {M : Type 1} → statement M
 main-spec =
     tie.close
     (tie.spec
+    say-where-requires
     slice-aggregate-read-full
     read-full-requires
     array-share-prefix-file
