@@ -1,11 +1,11 @@
 // All stale blocks drawn. Which of them comes first does not matter then, so they are drawn tile by tile.
+use super::tile::draw_tile;
 use block::COLUMNS;
 use block::ROWS;
 use marks::count_stale;
 use marks::stale_run;
 use marks::tile_rows;
 use picture::place::least;
-use super::tile::draw_tile;
 ghost use Prim.Native.Nat.{_+_, _*_, _<_};
 ghost use lib.ListN.{length};
 ghost use Rattle.machine.specs.Lent.{Lent};

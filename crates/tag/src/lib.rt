@@ -59,6 +59,7 @@ pub struct FarMids {
     pub tag: u32,
 }
 
+// What lies two and three pixels away gives to the tags.
 pub struct Far {
     pub corners: FarCorners,
     pub mids: FarMids,

@@ -29,7 +29,9 @@ fn refusal(
     singles: usize,
     bytes: usize,
 ) -> u32
-    ensures { λ r. ⌜ r ≡ refusalOf side w h n o m s picture output middle singles bytes ⌝ }
+    ensures { λ r. ⌜ r ≡ refusalOf
+        (record { limit = side; w = w; h = h; picture = n; output = o; middle = m; scratch = s })
+        (record { picture = picture; output = output; middle = middle; singles = singles; bytes = bytes }) ⌝ }
 {
     if (side < w) | (side < h) {
         return picture::refusal::SIDE;
