@@ -65,7 +65,7 @@ pub fn level3(p: Pair, n: Neighbors) -> Pair
     }
 }
 
-// Level 4, but for what lies two pixels away: on most of a page it is 0, and nothing farther away counts.
+// Level 4, but for what lies two pixels away: where it is 0, as on most of a page, nothing farther away counts.
 pub fn level4_near(e: u32, n: Neighbors) -> Pair
     ensures { λ q. ⌜ q ≡ level4Near e n ⌝ }
 {

@@ -35,7 +35,8 @@ ghost use mathlib.Core.Path.{_≡_};
 ghost use Rattle.tag.specs.Tag.{traceEdges};
 ghost use Rattle.tag.specs.Words.{cornersOf, bothOf, midsOf, tagsWord, splitOf, nearOf};
 
-// The corner tags, of the level 3 and of what lies farther away: each corner takes the first branch of the source that holds there.
+// The corner tags, from the pixel's own flags, level 3 and what lies farther away: a corner takes the first of the source's branches that
+// holds there.
 fn corners(e: u32, l3: Pair, f: FarCorners) -> u32
     ensures { λ q. ⌜ q ≡ cornersOf e l3 f ⌝ }
 {

@@ -39,7 +39,8 @@ refusalOf asked lent =
     (cond (ltb (lent .middle) (asked .middle) || ltb (lent .singles) (asked .scratch) || ltb (lent .bytes) (asked .scratch)) Refusal.scratch
     Refusal.none)))
 
--- three-times of a picture of w by h and n words: the output has nine words for each, and no middle is lent
+-- three-times of a picture of w by h and n words: the output has nine words for each, and no middle is lent. A word takes eight singles,
+-- a metric of four and weights of four, and eight bytes, junctions of four and tags of four
 abbrev pub asked3 : ℕ → ℕ → ℕ → Asked
 asked3 w h n = record { limit = 2048; w = w; h = h; picture = n; output = 9 * n; middle = 0; scratch = 8 * n }
 
@@ -55,7 +56,8 @@ lent3 picture output singles bytes = record {
 abbrev pub refusal3 : ℕ → ℕ → List ℕ → List ℕ → List Float → List ℕ → ℕ
 refusal3 w h picture output singles bytes = refusalOf (asked3 w h (w * h)) (lent3 picture output singles bytes)
 
--- nine-times: the middle is a whole three-times output, whose own passes take the singles and bytes
+-- nine-times: the middle is a whole three-times output, whose sides, 3 * 682 at most, are within three-times' limit, and whose own passes
+-- take the singles and bytes
 abbrev pub asked9 : ℕ → ℕ → ℕ → Asked
 asked9 w h n = record { limit = 682; w = w; h = h; picture = n; output = 81 * n; middle = 9 * n; scratch = 72 * n }
 

@@ -8,7 +8,7 @@ ghost use lib.ListN.{length};
 ghost use Rattle.whole.specs.Calls.{refusalOf, Scales, Scales9};
 ghost use Rattle.whole.specs.Passes.{Fits, Enlarged, wordsWithin};
 
-// The largest side of a picture that is enlarged three times, and nine times.
+// The largest side of a picture that is enlarged three times, and nine times: 3 * 682 is within 2,048.
 pub const SIDE3: u32 = 2048;
 
 pub const SIDE9: u32 = 682;
