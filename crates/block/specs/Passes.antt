@@ -1,4 +1,5 @@
--- Passes over rectangles that hold what the next one reads leave the picture's own records; and the rectangles round a tile are such. Assumes nothing.
+-- Passes over rectangles that hold what the next one reads leave the picture's own records; and the
+-- rectangles round a tile are such. Assumes nothing.
 use mathlib.Core.Path.{_≡_, refl, sym, _∙_, ap}
 use mathlib.Core.List.{List}
 use Prim.Native.Nat.{ℕ, _+_, _-_, _*_, _≤_, _<_, min}
@@ -18,12 +19,14 @@ use Rattle.junction.specs.Junction.{junctions}
 use Rattle.tag.specs.declared.Tags.{Tags}
 use Rattle.tag.specs.Tag.{tags}
 use Rattle.grid.specs.declared.Grid.{Grid}
-use Rattle.grid.specs.Grid.{ofMetric, ofWeights, ofJunctions, ofTags, metricField, weightsField, junctionsField, tagsField, tagsAt, rowOf, rectOf}
+use Rattle.grid.specs.Grid.{ofMetric, ofWeights, ofJunctions, ofTags, metricField}
+use Rattle.grid.specs.Grid.{weightsField, junctionsField, tagsField, tagsAt, rowOf, rectOf}
 use Rattle.grid.specs.Room.{Held, Within, Feeds}
-use Rattle.grid.specs.Kept.{Holds, Spans, holds-put, holds-take, holds-drop, rect-length, metrics-kept, weights-kept, junctions-kept, tags-kept}
+use Rattle.grid.specs.Kept.{Holds, Spans, holds-put, holds-take, holds-drop, rect-length}
+use Rattle.grid.specs.Kept.{metrics-kept, weights-kept, junctions-kept, tags-kept}
 use Rattle.block.specs.Block.{pictureJunctions, pictureTags}
 use Rattle.block.specs.Locality.{stages}
-use Rattle.block.specs.Window.{Rooms, Passed, Tile, tileOf, ringOf, TileTagged}
+use Rattle.block.specs.Window.{Rooms, Passed, Tile, tileOf, ringOf, TileTagged, tileMetrics, tileSingles, tileJunctions, tileBytes}
 
 -- records that are the same on a rectangle
 pub rect-same : {R E : Type 0} (elements : R → List E) (g : Grid) (f f′ : ℕ → ℕ → R) → ((x y : ℕ) → Within g x y → f x y ≡ f′ x y)
@@ -39,18 +42,29 @@ module _ (w h : ℕ) where
   fed k x y i = record { left = omega arith; right = omega arith; above = omega arith; below = omega arith }
 
   here : {a b : ℕ} {g v : Grid} → Feeds a b g w h v → (x y : ℕ) → Within v x y → In w h x y 0 0 0 0 x y
-  here k x y i = record { on-x = omega arith; on-y = omega arith; left = omega arith; right = omega arith; above = omega arith; below = omega arith }
+  here k x y i = record {
+    on-x = omega arith;
+    on-y = omega arith;
+    left = omega arith;
+    right = omega arith;
+    above = omega arith;
+    below = omega arith;
+  }
 
   module _ {g v : Grid} (m : ℕ → ℕ → Metric) (l : List Float) (hm : Holds nan ofMetric (λ r. refl) g m l) where
     pub weights-right : Feeds 1 1 g w h v → (x y : ℕ) → Within v x y → weights w h (metricField g l) x y ≡ weights w h m x y
     unfolding weights Pipeline.weights stages
-    weights-right k x y i = Pipeline.weights-agree stages w h {bx = x} {by = y} {l = 0} {r = 0} {u = 0} {d = 0} (metrics-kept g w h x y 1 1 1 1 (fed k x y i) m l hm) x y (here k x y i)
+    weights-right k x y i =
+        Pipeline.weights-agree stages w h {bx = x} {by = y} {l = 0} {r = 0} {u = 0} {d = 0}
+        (metrics-kept g w h x y 1 1 1 1 (fed k x y i) m l hm) x y (here k x y i)
 
-    pub junctions-right : {q : Grid} (n : ℕ → ℕ → Weights) (s : List Float) → Holds nan ofWeights (λ r. refl) v n s → Feeds 1 1 g w h q → Feeds 1 1 v w h q
+    pub junctions-right : {q : Grid} (n : ℕ → ℕ → Weights) (s : List Float) → Holds nan ofWeights (λ r. refl) v n s → Feeds 1 1 g w h q
+        → Feeds 1 1 v w h q
         → (x y : ℕ) → Within q x y → junctions w h (metricField g l) (weightsField v s) x y ≡ junctions w h m n x y
     unfolding junctions Pipeline.junctions stages
     junctions-right n s hn k k′ x y i =
-        Pipeline.junctions-agree stages w h {bx = x} {by = y} {l = 0} {r = 0} {u = 0} {d = 0} (metrics-kept g w h x y 1 1 1 1 (fed k x y i) m l hm)
+        Pipeline.junctions-agree stages w h {bx = x} {by = y} {l = 0} {r = 0} {u = 0} {d = 0}
+        (metrics-kept g w h x y 1 1 1 1 (fed k x y i) m l hm)
         (weights-kept v w h x y 1 1 1 1 (fed k′ x y i) n s hn) x y (here k x y i)
 
   pub tags-right : {q t : Grid} (n : ℕ → ℕ → Junctions) (l : List ℕ) → Holds 0 ofJunctions (λ r. refl) q n l → Feeds 3 3 q w h t
@@ -60,7 +74,8 @@ module _ (w h : ℕ) where
       let e = junctions-kept q w h x y 3 3 3 3 (fed k x y i) n l hn in
       let o = here k x y i in
       Pipeline.tags-agree stages w h (o .on-x) (o .on-y)
-      (narrower (omega arith) (omega arith) (omega arith) (omega arith) e) (narrower (omega arith) (omega arith) (omega arith) (omega arith) e)
+      (narrower (omega arith) (omega arith) (omega arith) (omega arith) e)
+      (narrower (omega arith) (omega arith) (omega arith) (omega arith) e)
 
 -- the passes one after the other
 module _ (w h : ℕ) (f : ℕ → ℕ → ℕ) (g v q t : Grid) (cut from p : ℕ) (s₀ s₁ s₂ : List Float) (b₀ b₁ b₂ : List ℕ)
@@ -76,14 +91,18 @@ module _ (w h : ℕ) (f : ℕ → ℕ → ℕ) (g v q t : Grid) (cut from p : �
   n = weights w h (metrics w h f)
 
   s₁-long : length s₁ ≡ length s₀
-  s₁-long = ap length e₁ ∙ length-put 0 (rectOf ofMetric g m) s₀ (omega (arith, rooms .metrics-room, rooms .weights-room, rect-length nan ofMetric (λ r. refl) g m))
+  s₁-long =
+      ap length e₁ ∙ length-put 0 (rectOf ofMetric g m) s₀
+      (omega (arith, rooms .metrics-room, rooms .weights-room, rect-length nan ofMetric (λ r. refl) g m))
 
   held-metrics : Holds nan ofMetric (λ r. refl) g m (take cut s₁)
   held-metrics = holds-take nan ofMetric (λ r. refl) g m cut s₁ (rooms .metrics-room) (rw e₁ (holds-put nan ofMetric (λ r. refl) g m s₀))
 
   -- the weights are the picture's
   weights-now : s₂ ≡ put cut (rectOf ofWeights v n) s₁
-  weights-now = e₂ ∙ ap (λ (l : List Float). put cut l s₁) (rect-same ofWeights v _ _ (weights-right w h m (take cut s₁) held-metrics (rooms .to-weights)))
+  weights-now =
+      e₂ ∙ ap (λ (l : List Float). put cut l s₁)
+      (rect-same ofWeights v _ _ (weights-right w h m (take cut s₁) held-metrics (rooms .to-weights)))
 
   front : take cut s₂ ≡ take cut s₁
   front = ap (take cut) weights-now ∙ take-put cut cut (rectOf ofWeights v n) s₁ (omega arith) (omega (arith, s₁-long, rooms .weights-room))
@@ -96,7 +115,9 @@ module _ (w h : ℕ) (f : ℕ → ℕ → ℕ) (g v q t : Grid) (cut from p : �
   unfolding pictureJunctions
   junctions-now =
       e₃ ∙ ap (λ (l : List ℕ). put 0 l b₀)
-      (rect-same ofJunctions q _ _ (junctions-right w h m (take cut s₂) (rw front held-metrics) n (drop cut s₂) held-weights (rooms .to-junctions) (rooms .over-junctions)))
+      (rect-same ofJunctions q _ _
+      (junctions-right w h m (take cut s₂) (rw front held-metrics) n (drop cut s₂) held-weights (rooms .to-junctions)
+      (rooms .over-junctions)))
 
   held-junctions : Holds 0 ofJunctions (λ r. refl) q (pictureJunctions w h f) (take from b₁)
   held-junctions =
@@ -146,13 +167,14 @@ module _ {w h x y k r : ℕ} (tile : Tile w h x y k r) where
       let d : ring a .rows ≤ 8 + a + a = omega arith in
       omega (arith, mul-le-mul d c)
 
-  tile-held : r * (k * 4) ≤ 512
+  tile-held : r * (k * 4) ≤ 16 * 8 * 4
   tile-held =
       let c : k * 4 ≤ 64 = omega arith in
       let d : r ≤ 8 = omega arith in
       omega (arith, mul-le-mul d c)
 
-  pub tile-rooms : (p s b : ℕ) → w * h ≤ p → 3408 ≤ s → 1744 ≤ b → Rooms w h (ring 5) (ring 4) (ring 3) (tileOf x y k r) 1872 1232 p s b
+  pub tile-rooms : (p s b : ℕ) → w * h ≤ p → tileSingles ≤ s → tileBytes ≤ b
+      → Rooms w h (ring 5) (ring 4) (ring 3) (tileOf x y k r) tileMetrics tileJunctions p s b
   tile-rooms p s b hp hs hb = record {
     picture = hp;
     metrics-on = record { columns = omega arith; lines = omega arith };
@@ -167,15 +189,16 @@ module _ {w h x y k r : ℕ} (tile : Tile w h x y k r) where
       above = omega arith;
       below = omega arith;
     };
-    metrics-room = ring-held 5 1872 (omega arith);
-    weights-room = omega (arith, ring-held 4 1536 (omega arith));
-    junctions-room = ring-held 3 1232 (omega arith);
+    metrics-room = ring-held 5 tileMetrics (omega arith);
+    weights-room = omega (arith, ring-held 4 (24 * 16 * 4) (omega arith));
+    junctions-room = ring-held 3 tileJunctions (omega arith);
     tags-room = omega (arith, tile-held);
   }
 
   -- the tags of a tile, read back
-  pub tile-tagged : (f : ℕ → ℕ → ℕ) (b b′ : List ℕ) → 1744 ≤ length b
-      → b′ ≡ put 1232 (rectOf ofTags (tileOf x y k r) (pictureTags w h f)) (put 0 (rectOf ofJunctions (ring 3) (pictureJunctions w h f)) b)
+  pub tile-tagged : (f : ℕ → ℕ → ℕ) (b b′ : List ℕ) → tileBytes ≤ length b
+      → b′ ≡ put tileJunctions (rectOf ofTags (tileOf x y k r) (pictureTags w h f))
+      (put 0 (rectOf ofJunctions (ring 3) (pictureJunctions w h f)) b)
       → TileTagged w h f x y k r b b′
   unfolding tagsField
   tile-tagged f b b′ hb e = record { is = e; long = ap length e ∙ long-tags ∙ long; each = each }
@@ -188,21 +211,31 @@ module _ {w h x y k r : ℕ} (tile : Tile w h x y k r) where
 
       long : length l ≡ length b
       long = length-put 0 (rectOf ofJunctions (ring 3) (pictureJunctions w h f)) b
-          (omega (arith, rect-length 0 ofJunctions (λ r. refl) (ring 3) (pictureJunctions w h f), ring-held 3 1232 (omega arith)))
+          (omega (arith, rect-length 0 ofJunctions (λ r. refl) (ring 3) (pictureJunctions w h f), ring-held 3 tileJunctions (omega arith)))
 
-      long-tags : length (put 1232 (rectOf ofTags (tileOf x y k r) t) l) ≡ length l
-      long-tags = length-put 1232 (rectOf ofTags (tileOf x y k r) t) l (omega (arith, rect-length 0 ofTags (λ r. refl) (tileOf x y k r) t, tile-held, long))
+      long-tags : length (put tileJunctions (rectOf ofTags (tileOf x y k r) t) l) ≡ length l
+      long-tags =
+          length-put tileJunctions (rectOf ofTags (tileOf x y k r) t) l
+          (omega (arith, rect-length 0 ofTags (λ r. refl) (tileOf x y k r) t, tile-held, long))
 
-      holds : Holds 0 ofTags (λ r. refl) (tileOf x y k r) t (drop 1232 b′)
-      holds = rw e (holds-drop 0 ofTags (λ r. refl) (tileOf x y k r) t 1232 l (omega (arith, long)))
+      holds : Holds 0 ofTags (λ r. refl) (tileOf x y k r) t (drop tileJunctions b′)
+      holds = rw e (holds-drop 0 ofTags (λ r. refl) (tileOf x y k r) t tileJunctions l (omega (arith, long)))
 
-      each : (i j : ℕ) → i < k → j < r → tagsAt (drop 1232 b′) ((j * k + i) * 4) ≡ t (x + i) (y + j)
+      each : (i j : ℕ) → i < k → j < r → tagsAt (drop tileJunctions b′) ((j * k + i) * 4) ≡ t (x + i) (y + j)
       each i j hi hj =
           let ex : x + i - x ≡ i = omega arith in
           let ey : y + j - y ≡ j = omega arith in
           let o : In w h (x + i) (y + j) 0 0 0 0 (x + i) (y + j) =
-          record { on-x = omega arith; on-y = omega arith; left = omega arith; right = omega arith; above = omega arith; below = omega arith } in
-          let s : Spans (tileOf x y k r) w h (x + i) (y + j) 0 0 0 0 = record { left = omega arith; right = omega arith; above = omega arith; below = omega arith } in
-          ap (λ (n : ℕ). tagsAt (drop 1232 b′) ((n * k + i) * 4)) (sym ey)
-          ∙ ap (λ (n : ℕ). tagsAt (drop 1232 b′) (((y + j - y) * k + n) * 4)) (sym ex)
-          ∙ tags-kept (tileOf x y k r) w h (x + i) (y + j) 0 0 0 0 s t (drop 1232 b′) holds (x + i) (y + j) o
+          record {
+            on-x = omega arith;
+            on-y = omega arith;
+            left = omega arith;
+            right = omega arith;
+            above = omega arith;
+            below = omega arith;
+          } in
+          let s : Spans (tileOf x y k r) w h (x + i) (y + j) 0 0 0 0 =
+          record { left = omega arith; right = omega arith; above = omega arith; below = omega arith } in
+          ap (λ (n : ℕ). tagsAt (drop tileJunctions b′) ((n * k + i) * 4)) (sym ey)
+          ∙ ap (λ (n : ℕ). tagsAt (drop tileJunctions b′) (((y + j - y) * k + n) * 4)) (sym ex)
+          ∙ tags-kept (tileOf x y k r) w h (x + i) (y + j) 0 0 0 0 s t (drop tileJunctions b′) holds (x + i) (y + j) o

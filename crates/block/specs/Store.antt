@@ -28,7 +28,8 @@ pub record RowRoom (w x k from t ow at o : ℕ) : Type 0 where
   pub tags : from + k * 4 ≤ t
   pub words : at + 2 * ow + k * 3 ≤ o
 
--- there is room for k by r blocks from (x, y) on: the last of the output's rows may end with them
+-- there is room for k by r blocks from (x, y) on: the last of the output's rows may end with them. Rows are of at most 65,536 words, far
+-- more than the 3 * 2,048 of any output, so that no place wraps.
 pub record RectRoom (w h x y k r ow at o : ℕ) : Type 0 where
   pub along : x + k ≤ w
   pub down : y + r ≤ h

@@ -1,4 +1,5 @@
--- The paper's table, T1 to T13, as one theorem: thirteen pairs of what the definitions give and what the paper says, computed at once. Assumes nothing.
+-- The paper's table, T1 to T13, as one theorem: thirteen pairs of what the definitions give and what the
+-- paper says, computed at once. Assumes nothing.
 use mathlib.Core.Path.{_≡_, refl}
 use mathlib.Core.Bool.{Bool, true, false, _&&_}
 use mathlib.Core.List.{List, [], _∷_}
@@ -52,7 +53,8 @@ agree (e ∷ es) = eqb (e .given) (e .tabled) && agree es
 
 -- the checker computes the thirteen tests
 computed : agree table ≡ true
-unfolding table sqrtOf distanceOf weightedOf norm cornerWeightOf traceEdges traceFlags cornerTag midTag if_then_else_ maxOf minOf clampOf add sub mul div neg lt ofInt ofBits toBits
+unfolding table sqrtOf distanceOf weightedOf norm cornerWeightOf traceEdges traceFlags cornerTag midTag if_then_else_ maxOf minOf clampOf
+    add sub mul div neg lt ofInt ofBits toBits
 computed = refl
 
 front : (a b : Bool) → (a && b) ≡ true → (a ≡ true) × (b ≡ true)

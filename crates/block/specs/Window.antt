@@ -1,5 +1,5 @@
--- What the passes ask of the rectangles that they run on, one after the other, and what they leave; the rectangles round a tile of pixels; and the
--- words that a block may have. What the code computes by; nothing of the paper's rests on it. Definitions only.
+-- What the passes ask of the rectangles that they run on, one after the other, and what they leave; the rectangles round a tile of pixels;
+-- and the words that a block may have. What the code computes by; nothing of the paper's rests on it. Definitions only.
 use mathlib.Core.Path.{_≡_}
 use mathlib.Core.List.{List, [], _∷_}
 use Prim.Native.Nat.{ℕ, _+_, _-_, _*_, _≤_, _<_, min}
@@ -13,8 +13,8 @@ use Rattle.grid.specs.Grid.{ofMetric, ofWeights, ofJunctions, ofTags, tagsAt, r
 use Rattle.grid.specs.Room.{Held, Inner, Feeds}
 use Rattle.block.specs.Block.{pictureJunctions, pictureTags, tagWord}
 
--- metrics of g before the cut and weights of v from there on in s singles, junctions of q before `from` and tags of t from there on in b bytes:
--- there is room, and each rectangle holds what the next one reads
+-- metrics of g before the cut and weights of v from there on in s singles, junctions of q before `from` and tags of t from there on in b
+-- bytes: there is room, and each rectangle holds what the next one reads
 pub record Rooms (w h : ℕ) (g v q t : Grid) (cut from p s b : ℕ) : Type 0 where
   pub picture : w * h ≤ p
   pub metrics-on : Inner g w h
@@ -50,11 +50,28 @@ tileOf x y k r = record { x0 = x; y0 = y; cols = k; rows = r }
 abbrev pub ringOf : ℕ → ℕ → ℕ → ℕ → ℕ → ℕ → ℕ → Grid
 ringOf w h x y k r a = record { x0 = x - a; y0 = y - a; cols = min (x + k + a) w - (x - a); rows = min (y + r + a) h - (y - a) }
 
--- the junctions round a tile and, from byte 1,232 on, its tags, written over the bytes b
+-- how many singles the metrics of the pixels within 5 of a tile take, 26 by 18 of them at most and four singles each, and with the
+-- weights of those within 4, 24 by 16 at most: 26 * 18 * 4, and 24 * 16 * 4 more
+abbrev pub tileMetrics : ℕ
+tileMetrics = 1872
+
+abbrev pub tileSingles : ℕ
+tileSingles = 3408
+
+-- how many bytes the junctions of the pixels within 3 of a tile take, 22 by 14 at most, and with the tags of its own, 16 by 8 at most:
+-- 22 * 14 * 4, and 16 * 8 * 4 more
+abbrev pub tileJunctions : ℕ
+tileJunctions = 1232
+
+abbrev pub tileBytes : ℕ
+tileBytes = 1744
+
+-- the junctions round a tile and after them its tags, written over the bytes b
 pub record TileTagged (w h : ℕ) (f : ℕ → ℕ → ℕ) (x y k r : ℕ) (b b′ : List ℕ) : Type 0 where
-  pub is : b′ ≡ put 1232 (rectOf ofTags (tileOf x y k r) (pictureTags w h f)) (put 0 (rectOf ofJunctions (ringOf w h x y k r 3) (pictureJunctions w h f)) b)
+  pub is : b′ ≡ put tileJunctions (rectOf ofTags (tileOf x y k r) (pictureTags w h f))
+      (put 0 (rectOf ofJunctions (ringOf w h x y k r 3) (pictureJunctions w h f)) b)
   pub long : length b′ ≡ length b
-  pub each : (i j : ℕ) → i < k → j < r → tagsAt (drop 1232 b′) ((j * k + i) * 4) ≡ pictureTags w h f (x + i) (y + j)
+  pub each : (i j : ℕ) → i < k → j < r → tagsAt (drop tileJunctions b′) ((j * k + i) * 4) ≡ pictureTags w h f (x + i) (y + j)
 
 -- the words of all nine tags
 unfoldable pub wordsByTag : ℕ → ℕ → (ℕ → ℕ → ℕ) → ℕ → ℕ → List ℕ

@@ -5,11 +5,11 @@ use field::metrics_rect;
 use field::weights_rect;
 use grid::Grid;
 use picture::place::least;
-use picture::place::less;
+use picture::place::saturating_sub;
 use tag::Tags;
 use tagged::tags_rect;
 ghost use mathlib.Core.Path.{_≡_};
-ghost use Prim.Native.Nat.{ℕ, _+_, _-_, _*_, _^_, _<_, _≤_};
+ghost use Prim.Native.Nat.{_+_, _-_, _*_, _≤_};
 ghost use lib.ListN.{length, take, drop};
 ghost use Rattle.picture.specs.Picture.{words};
 ghost use Rattle.picture.specs.Fill.{put};
@@ -17,7 +17,7 @@ ghost use Rattle.grid.specs.Grid.{ofJunctions, metricField, weightsField, rectO
 ghost use Rattle.grid.specs.Room.{Held, Feeds};
 ghost use Rattle.junction.specs.Junction.{junctions};
 ghost use Rattle.block.specs.Block.{tagWord, blockFrom};
-ghost use Rattle.block.specs.Window.{Tile, ringOf, Rooms, Passed, TileTagged, wordsByTag};
+ghost use Rattle.block.specs.Window.{Tile, ringOf, Rooms, Passed, TileTagged, tileBytes, wordsByTag};
 
 pub mod store;
 
@@ -26,16 +26,25 @@ pub const COLUMNS: u32 = 16;
 
 pub const ROWS: u32 = 8;
 
-// Where a tile's tags start: the junctions of the pixels round it, 22 by 14 at most, stand before them.
-pub const TAGS: usize = 1232;
+// Where a tile's weights start among its singles: the metrics of the pixels within 5 of it, 26 by 18 at most, stand before them.
+const CUT: usize = 26 * 18 * 4;
+
+// A tile's singles: those metrics, and the weights of the pixels within 4 of it, 24 by 16 at most.
+const SINGLES: usize = CUT + 24 * 16 * 4;
+
+// Where a tile's tags start among its bytes: the junctions of the pixels within 3 of it, 22 by 14 at most, stand before them.
+pub const TAGS: usize = 22 * 14 * 4;
+
+// A tile's bytes: those junctions, and the tags of its own pixels, 16 by 8 at most.
+pub const BYTES: usize = TAGS + 16 * 8 * 4;
 
 // The rectangle that reaches a pixels round the k by r pixels from (x, y) on, as far as the picture goes.
 fn ring(w: u32, h: u32, x: u32, y: u32, k: u32, r: u32, a: u32) -> Grid
     requires { ⌜ (Tile w h x y k r) × (a ≤ 5) ⌝ }
     ensures { λ g. ⌜ g ≡ ringOf w h x y k r a ⌝ }
 {
-    let x0 = less(x, a);
-    let y0 = less(y, a);
+    let x0 = saturating_sub(x, a);
+    let y0 = saturating_sub(y, a);
     Grid {
         x0,
         y0,
@@ -93,7 +102,7 @@ pub fn passes(
 
 // The tags of the k by r pixels from (x, y) on, from the picture alone, from the byte TAGS on. Before them stand the junctions round them.
 pub fn tags_tile(picture: &[u32], w: u32, h: u32, x: u32, y: u32, k: u32, r: u32, bytes: &mut [u8])
-    requires { ⌜ (Tile w h x y k r) × ((w * h ≤ length (now picture)) × (1744 ≤ length (now bytes))) ⌝ }
+    requires { ⌜ (Tile w h x y k r) × ((w * h ≤ length (now picture)) × (tileBytes ≤ length (now bytes))) ⌝ }
     ensures { λ _. ⌜ TileTagged w h (words w (now (picture .entry))) x y k r (now (bytes .entry)) (now (bytes .exit)) ⌝ }
 {
     let g = ring(w, h, x, y, k, r, 5);
@@ -105,8 +114,8 @@ pub fn tags_tile(picture: &[u32], w: u32, h: u32, x: u32, y: u32, k: u32, r: u32
         cols: k,
         rows: r,
     };
-    let mut singles = [0.0f32; 3408];
-    passes(picture, w, h, g, v, q, t, &mut singles, 1872, bytes, TAGS);
+    let mut singles = [0.0f32; SINGLES];
+    passes(picture, w, h, g, v, q, t, &mut singles, CUT, bytes, TAGS);
 }
 
 // The word that a tag names, of those round (x, y).

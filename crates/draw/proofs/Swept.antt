@@ -8,11 +8,7 @@ use Prim.Native.Nat.{ℕ, zero, suc, _+_, _-_, _*_, _≤_, _<_}
 use native.Mathlib.Nat.{add-zero, not-suc-le-zero}
 use native.Mathlib.Decide.{decLt}
 use native.Mathlib.Omega.{arith}
-use lib.Dec.{eqb}
-use lib.ListN.{length, getD, take, getD-replicate, List·getD-map}
-use lib.Seq.{slice, getD-drop, getD-take}
-use borrow.Author.Tests.{eqb-true, not-false}
-use Rattle.picture.specs.Fill.{getD-any}
+use lib.ListN.{length, getD, take, getD-replicate}
 use Rattle.machine.specs.Lists.{has, count}
 use Rattle.machine.specs.Screen.{Screen, Lawful, blockWords}
 use Rattle.machine.specs.Calls.{isStale}

@@ -1,5 +1,5 @@
-// The first n stale blocks drawn: where there are more, in row order, and otherwise all of them in whatever order. What is drawn is said over a screen; how
-// a tile is drawn (tile.rt) is the three-times screen's.
+// The first n stale blocks drawn: where there are more, in row order, and otherwise all of them in whatever order. What is drawn is said
+// over a screen; how a tile is drawn (tile.rt) is the three-times screen's.
 use block::COLUMNS;
 use marks::count_stale;
 use marks::stale_run;

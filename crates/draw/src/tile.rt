@@ -1,10 +1,11 @@
 // The blocks of a tile drawn: a rectangle of blocks that share their tags' work.
+use block::BYTES;
 use block::TAGS;
 use block::store::put_rect;
 use block::tags_tile;
 use marks::clear_tile;
 use three::corner;
-ghost use Prim.Native.Nat.{_+_, _*_};
+ghost use Prim.Native.Nat.{_*_};
 ghost use lib.ListN.{length};
 ghost use Rattle.block.specs.Window.{Tile};
 ghost use Rattle.machine.specs.Lent.{Lent};
@@ -28,7 +29,7 @@ pub fn draw_tile(
     ensures { λ _. ⌜ DrawsAll screen3 w h (tileBlocks w x y k r) (now (picture .entry)) (now (output .entry)) (now (marks .entry))
         (now (output .exit)) (now (marks .exit)) ⌝ }
 {
-    let mut bytes = [0u8; 1744];
+    let mut bytes = [0u8; BYTES];
     tags_tile(picture, w, h, x, y, k, r, &mut bytes);
     let row = 3 * (w as usize);
     let at = corner(w, x, y);

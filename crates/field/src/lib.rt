@@ -2,7 +2,6 @@
 // neighbours' records at clamped places of a lent buffer and writes one record a pixel, row by row. The
 // whole picture and the rectangles round a tile are the same passes on other rectangles.
 use grid::Grid;
-use grid::junctions_in;
 use grid::metric_in;
 use grid::place::three_at;
 use grid::store_bytes;

@@ -1,5 +1,5 @@
--- Records kept for a rectangle of the picture, four elements each, row by row: how a record stands in a list, and the field that a list holds.
--- Definitions only.
+-- Records kept for a rectangle of the picture, four elements each, row by row: how a record stands in a list, and
+-- the field that a list holds. Definitions only.
 use mathlib.Core.List.{List, [], _∷_}
 use Prim.Native.Nat.{ℕ, _+_, _-_, _*_}
 use lib.Ieee.{Float, nan}

@@ -15,7 +15,8 @@ use Rattle.metric.specs.declared.Weights.{Weights}
 use Rattle.junction.specs.declared.Junctions.{Junctions}
 use Rattle.tag.specs.declared.Tags.{Tags}
 use Rattle.grid.specs.declared.Grid.{Grid}
-use Rattle.grid.specs.Grid.{ofMetric, ofWeights, ofJunctions, ofTags, metricAt, weightsAt, junctionsAt, tagsAt, startOf, metricField, weightsField, junctionsField, tagsField, rowOf, rectOf}
+use Rattle.grid.specs.Grid.{ofMetric, ofWeights, ofJunctions, ofTags, metricAt, weightsAt, junctionsAt, tagsAt}
+use Rattle.grid.specs.Grid.{startOf, metricField, weightsField, junctionsField, tagsField, rowOf, rectOf}
 use Rattle.grid.specs.Room.{Within}
 
 -- a record of the rectangle ends before the rectangle does
@@ -38,14 +39,16 @@ module _ {R E : Type 0} (none : E) (elements : R → List E) (four : (r : R) →
   row-length y = Rattle.picture.specs.Fill.length-flat 4 (λ i. elements (f (g .x0 + i) y)) (λ i. four (f (g .x0 + i) y)) (g .cols)
 
   -- element j of the record of (x, y)
-  pub element : (l : List E) → Holds l → (x y : ℕ) → Within g x y → (j : ℕ) → j < 4 → getD l (startOf g x y + j) none ≡ getD (elements (f x y)) j none
+  pub element : (l : List E) → Holds l → (x y : ℕ) → Within g x y → (j : ℕ) → j < 4
+      → getD l (startOf g x y + j) none ≡ getD (elements (f x y)) j none
   unfolding Holds rectOf rowOf
   element l k x y i j hj =
       let r : ℕ → ℕ → List E = λ i n. elements (f (g .x0 + i) (g .y0 + n)) in
       let ex : g .x0 + (x - g .x0) ≡ x = omega arith in
       let ey : g .y0 + (y - g .y0) ≡ y = omega arith in
       k (startOf g x y + j) (omega (arith, start-in g x y i))
-      ∙ getD-rect 4 (g .cols) (g .rows) r (λ i n. four (f (g .x0 + i) (g .y0 + n))) (x - g .x0) (y - g .y0) j none (omega arith) (omega arith) hj
+      ∙ getD-rect 4 (g .cols) (g .rows) r (λ i n. four (f (g .x0 + i) (g .y0 + n))) (x - g .x0) (y - g .y0) j none (omega arith)
+      (omega arith) hj
       ∙ ap (λ (i : ℕ). getD (elements (f i (g .y0 + (y - g .y0)))) j none) ex
       ∙ ap (λ (i : ℕ). getD (elements (f x i)) j none) ey
 
@@ -68,7 +71,8 @@ module _ {R E : Type 0} (none : E) (elements : R → List E) (four : (r : R) →
   -- the record's four elements
   pub elements-of : (l : List E) → Holds l → (x y : ℕ) → Within g x y
       → (getD l (startOf g x y) none ≡ getD (elements (f x y)) 0 none) × (getD l (startOf g x y + 1) none ≡ getD (elements (f x y)) 1 none)
-      × (getD l (startOf g x y + 2) none ≡ getD (elements (f x y)) 2 none) × (getD l (startOf g x y + 3) none ≡ getD (elements (f x y)) 3 none)
+      × (getD l (startOf g x y + 2) none ≡ getD (elements (f x y)) 2 none)
+      × (getD l (startOf g x y + 3) none ≡ getD (elements (f x y)) 3 none)
   elements-of l k x y i = (
     ap (λ (n : ℕ). getD l n none) (sym (add-zero (startOf g x y))) ∙ element l k x y i 0 (omega arith),
     element l k x y i 1 (omega arith),
@@ -87,19 +91,22 @@ pub spanned : (g : Grid) (w h bx by l r u d : ℕ) → Spans g w h bx by l r u d
 spanned g w h bx by l r u d s x y i = record { left = omega arith; right = omega arith; above = omega arith; below = omega arith }
 
 module _ (g : Grid) (w h bx by l r u d : ℕ) (s : Spans g w h bx by l r u d) where
-  pub metrics-kept : (m : ℕ → ℕ → Metric) (v : List Float) → Holds nan ofMetric (λ r. refl) g m v → Agree w h bx by l r u d (metricField g v) m
+  pub metrics-kept : (m : ℕ → ℕ → Metric) (v : List Float) → Holds nan ofMetric (λ r. refl) g m v
+      → Agree w h bx by l r u d (metricField g v) m
   unfolding metricField metricAt
   metrics-kept m v k x y i =
       let e = elements-of nan ofMetric (λ r. refl) g m v k x y (spanned g w h bx by l r u d s x y i) in
       rw (e .0, e .1, e .2, e .3)
 
-  pub weights-kept : (m : ℕ → ℕ → Weights) (v : List Float) → Holds nan ofWeights (λ r. refl) g m v → Agree w h bx by l r u d (weightsField g v) m
+  pub weights-kept : (m : ℕ → ℕ → Weights) (v : List Float) → Holds nan ofWeights (λ r. refl) g m v
+      → Agree w h bx by l r u d (weightsField g v) m
   unfolding weightsField weightsAt
   weights-kept m v k x y i =
       let e = elements-of nan ofWeights (λ r. refl) g m v k x y (spanned g w h bx by l r u d s x y i) in
       rw (e .0, e .1, e .2, e .3)
 
-  pub junctions-kept : (m : ℕ → ℕ → Junctions) (v : List ℕ) → Holds 0 ofJunctions (λ r. refl) g m v → Agree w h bx by l r u d (junctionsField g v) m
+  pub junctions-kept : (m : ℕ → ℕ → Junctions) (v : List ℕ) → Holds 0 ofJunctions (λ r. refl) g m v
+      → Agree w h bx by l r u d (junctionsField g v) m
   unfolding junctionsField junctionsAt
   junctions-kept m v k x y i =
       let e = elements-of 0 ofJunctions (λ r. refl) g m v k x y (spanned g w h bx by l r u d s x y i) in

@@ -54,11 +54,26 @@ pub record Feeds (a b : ℕ) (g : Grid) (w h : ℕ) (v : Grid) : Type 0 where
   pub above : g .y0 ≤ v .y0 - b
   pub below : min (v .y0 + v .rows + b) h ≤ g .y0 + g .rows
 
-pub reads-at : (a b : ℕ) (g : Grid) (w h : ℕ) (v : Grid) (y : ℕ) → Reads a b g w h v y → (i : ℕ) → i < v .cols → Around a b g w h (v .x0 + i) y
-reads-at a b g w h v y r i hi = record { on-x = omega arith; on-y = omega arith; left = omega arith; right = omega arith; above = omega arith; below = omega arith }
+pub reads-at : (a b : ℕ) (g : Grid) (w h : ℕ) (v : Grid) (y : ℕ) → Reads a b g w h v y → (i : ℕ) → i < v .cols
+    → Around a b g w h (v .x0 + i) y
+reads-at a b g w h v y r i hi = record {
+  on-x = omega arith;
+  on-y = omega arith;
+  left = omega arith;
+  right = omega arith;
+  above = omega arith;
+  below = omega arith;
+}
 
 pub feeds-at : (a b : ℕ) (g : Grid) (w h : ℕ) (v : Grid) → Feeds a b g w h v → (j : ℕ) → j < v .rows → Reads a b g w h v (v .y0 + j)
-feeds-at a b g w h v f j hj = record { columns = omega arith; line = omega arith; left = omega arith; right = omega arith; above = omega arith; below = omega arith }
+feeds-at a b g w h v f j hj = record {
+  columns = omega arith;
+  line = omega arith;
+  left = omega arith;
+  right = omega arith;
+  above = omega arith;
+  below = omega arith;
+}
 
 -- the elements before a cut have room for what the cut has room for
 pub held-take : {E : Type 0} (g : Grid) (cut : ℕ) (l : List E) → cut ≤ length l → Held g cut → Held g (length (take cut l))

@@ -4,7 +4,7 @@ use metric::Metric;
 use metric::Weights;
 use tag::Tags;
 ghost use mathlib.Core.Path.{_≡_};
-ghost use Prim.Native.Nat.{ℕ, _+_, _-_, _*_, _^_, _<_, _≤_};
+ghost use Prim.Native.Nat.{_+_, _-_, _*_, _^_, _<_, _≤_};
 ghost use mathlib.Core.List.{[], _∷_};
 ghost use lib.ListN.{length};
 ghost use Rattle.picture.specs.Picture.{words};
@@ -31,7 +31,7 @@ pub fn word_in(picture: &[u32], w: u32, h: u32, x: u32, y: u32) -> u32
     picture[i]
 }
 
-// The record that starts at element i.
+// The metric that starts at element i.
 fn load_metric(s: &[f32], i: usize) -> Metric
     requires { ⌜ i + 4 ≤ length (now s) ⌝ }
     ensures { λ r. ⌜ r ≡ metricAt (now (s .entry)) i ⌝ }
@@ -44,6 +44,7 @@ fn load_metric(s: &[f32], i: usize) -> Metric
     }
 }
 
+// The weights that start at element i.
 fn load_weights(s: &[f32], i: usize) -> Weights
     requires { ⌜ i + 4 ≤ length (now s) ⌝ }
     ensures { λ r. ⌜ r ≡ weightsAt (now (s .entry)) i ⌝ }
@@ -56,6 +57,7 @@ fn load_weights(s: &[f32], i: usize) -> Weights
     }
 }
 
+// The junctions that start at element i.
 fn load_junctions(s: &[u8], i: usize) -> Junctions
     requires { ⌜ i + 4 ≤ length (now s) ⌝ }
     ensures { λ r. ⌜ r ≡ junctionsAt (now (s .entry)) i ⌝ }
@@ -68,6 +70,7 @@ fn load_junctions(s: &[u8], i: usize) -> Junctions
     }
 }
 
+// The tags that start at element i.
 pub fn load_tags(s: &[u8], i: usize) -> Tags
     requires { ⌜ i + 4 ≤ length (now s) ⌝ }
     ensures { λ r. ⌜ r ≡ tagsAt (now (s .entry)) i ⌝ }
@@ -90,7 +93,7 @@ fn start(g: Grid, x: u32, y: u32) -> usize
     (row * (g.cols as usize) + col) * 4
 }
 
-// The record of (x, y).
+// The metric of (x, y), which the rectangle holds.
 pub fn metric_in(s: &[f32], g: Grid, x: u32, y: u32) -> Metric
     requires { ⌜ (Within g x y) × (Held g (length (now s))) ⌝ }
     ensures { λ r. ⌜ r ≡ metricField g (now (s .entry)) x y ⌝ }
@@ -98,6 +101,7 @@ pub fn metric_in(s: &[f32], g: Grid, x: u32, y: u32) -> Metric
     load_metric(s, start(g, x, y))
 }
 
+// The weights of (x, y), which the rectangle holds.
 pub fn weights_in(s: &[f32], g: Grid, x: u32, y: u32) -> Weights
     requires { ⌜ (Within g x y) × (Held g (length (now s))) ⌝ }
     ensures { λ r. ⌜ r ≡ weightsField g (now (s .entry)) x y ⌝ }
@@ -105,6 +109,7 @@ pub fn weights_in(s: &[f32], g: Grid, x: u32, y: u32) -> Weights
     load_weights(s, start(g, x, y))
 }
 
+// The junctions of (x, y), which the rectangle holds.
 pub fn junctions_in(s: &[u8], g: Grid, x: u32, y: u32) -> Junctions
     requires { ⌜ (Within g x y) × (Held g (length (now s))) ⌝ }
     ensures { λ r. ⌜ r ≡ junctionsField g (now (s .entry)) x y ⌝ }
@@ -112,7 +117,7 @@ pub fn junctions_in(s: &[u8], g: Grid, x: u32, y: u32) -> Junctions
     load_junctions(s, start(g, x, y))
 }
 
-// Four elements stored from element i on.
+// Four singles stored from element i on.
 pub fn store_singles(s: &mut [f32], i: usize, a: f32, b: f32, c: f32, d: f32)
     requires { ⌜ i + 4 ≤ length (now s) ⌝ }
     ensures { λ _. ⌜ now (s .exit) ≡ put i (a ∷ b ∷ c ∷ d ∷ []) (now (s .entry)) ⌝ }
@@ -123,6 +128,7 @@ pub fn store_singles(s: &mut [f32], i: usize, a: f32, b: f32, c: f32, d: f32)
     s[i + 3] = d;
 }
 
+// Four bytes stored from element i on.
 pub fn store_bytes(s: &mut [u8], i: usize, a: u8, b: u8, c: u8, d: u8)
     requires { ⌜ i + 4 ≤ length (now s) ⌝ }
     ensures { λ _. ⌜ now (s .exit) ≡ put i (a ∷ b ∷ c ∷ d ∷ []) (now (s .entry)) ⌝ }

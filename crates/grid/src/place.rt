@@ -1,5 +1,5 @@
 // Places beside a pixel on one axis, stopped at both borders.
-use picture::place::less;
+use picture::place::saturating_sub;
 ghost use mathlib.Core.Path.{_≡_};
 ghost use Prim.Native.Nat.{_+_, _-_, _<_, min};
 ghost use Rattle.grid.specs.Places.{Threes, Sevens};
@@ -22,12 +22,13 @@ pub struct Three {
     pub after: u32,
 }
 
+// The place p of n with those beside it; at a border it stands for the one outside.
 pub fn three_at(p: u32, n: u32) -> Three
     requires { ⌜ p < n ⌝ }
     ensures { λ r. ⌜ Threes n p r ⌝ }
 {
     Three {
-        before: less(p, 1),
+        before: saturating_sub(p, 1),
         at: p,
         after: more(p, 1, n),
     }
@@ -44,14 +45,15 @@ pub struct Seven {
     pub after3: u32,
 }
 
+// The place p of n with the three on each side; the last place at a border stands for those outside.
 pub fn seven_at(p: u32, n: u32) -> Seven
     requires { ⌜ p < n ⌝ }
     ensures { λ r. ⌜ Sevens n p r ⌝ }
 {
     Seven {
-        before3: less(p, 3),
-        before2: less(p, 2),
-        before1: less(p, 1),
+        before3: saturating_sub(p, 3),
+        before2: saturating_sub(p, 2),
+        before1: saturating_sub(p, 1),
         at: p,
         after1: more(p, 1, n),
         after2: more(p, 2, n),

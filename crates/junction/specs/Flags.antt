@@ -1,5 +1,6 @@
--- `arbitrateJunctions` on flags, as the code computes it: `and` for a product, `or` for a sum cut at 1.0, `not` for `inv`. A junction is seen from one
--- of its corners: `own`, and around it `next`, `opposite` and `prev`; a corner is a weight between those before and after it. Definitions only.
+-- `arbitrateJunctions` on flags, as the code computes it: `and` for a product, `or` for a sum cut at 1.0, `not` for `inv`.
+-- A junction is seen from one of its corners: `own`, and around it `next`, `opposite` and `prev`; a corner is a weight
+-- between those before and after it. Definitions only.
 use mathlib.Core.Bool.{Bool, not, cond, _&&_, _||_}
 use Prim.Native.Nat.{ℕ, _+_}
 use lib.Ieee.{Float, lt, le, eq}
@@ -80,12 +81,14 @@ abbrev pub pair : Float → Float → Pair
 pair a b = record { 0 = a; 1 = b }
 
 unfoldable pub conditionOf : Pair → Pair → Pair → Bool
-conditionOf d a b = le (maxOf (minOf (a .0) (a .1)) (minOf (b .0) (b .1))) (d .0) && le (maxOf (minOf (a .0) (b .1)) (minOf (b .0) (a .1))) (d .1)
+conditionOf d a b =
+    le (maxOf (minOf (a .0) (a .1)) (minOf (b .0) (b .1))) (d .0) && le (maxOf (minOf (a .0) (b .1)) (minOf (b .0) (a .1))) (d .1)
 
 abbrev pub bit : Bool → ℕ → ℕ
 bit t n = cond t n 0
 
--- the junction number of a corner: whether it is active, its diagonal d, and the distances a and b along a row and along a column (orth_a, orth_b)
+-- the junction number of a corner: whether it is active, its diagonal d, and the distances a and b
+-- along a row and along a column (orth_a, orth_b)
 unfoldable pub numberOf : Bool → Pair → Pair → Pair → ℕ
 numberOf active d a b =
     let h = minOf (a .0) (b .0) in

@@ -1,5 +1,5 @@
--- A pixel whose weights are all 0.0 has no active corner, whatever stands around it; and a corner among distances of 0.0 that is not active has number 0.
--- Assumes nothing.
+-- A pixel whose weights are all 0.0 has no active corner, whatever stands around it; and a corner among distances of 0.0
+-- that is not active has number 0. Assumes nothing.
 use mathlib.Core.Path.{_≡_, refl, sym, subst}
 use mathlib.Core.Bool.{Bool, true, false, not, _&&_, _||_}
 use lib.Dec.{T}
@@ -9,13 +9,15 @@ use Rattle.metric.specs.declared.Weights.{Weights}
 use Rattle.single.specs.Single.{f0, _⊕_}
 use Rattle.junction.specs.declared.Triple.{Triple}
 use Rattle.junction.specs.declared.Corner.{Corner}
-use Rattle.junction.specs.Flags.{above, at0, at1, at2, at3, dominanceOf, voteOf, injectOf, suppressOf, weightlessOf, activeCorners, numberOf}
+use Rattle.junction.specs.Flags.{above, at0, at1, at2, at3, dominanceOf, voteOf, injectOf}
+use Rattle.junction.specs.Flags.{suppressOf, weightlessOf, activeCorners, numberOf}
 use Rattle.single.specs.Zero.{Zero, zero, neg-zero, add-zero, twice-zero, min-zero, lt-zero}
 
 abbrev none : Corner
 none = record { vote = false; active = false }
 
-idle-flags : (g x a b s y : Bool) → g ≡ false → s ≡ false → _≡_ {A = Corner} (record { vote = g && x; active = (g && x) || (a && b && s && y) }) none
+idle-flags : (g x a b s y : Bool) → g ≡ false → s ≡ false
+    → _≡_ {A = Corner} (record { vote = g && x; active = (g && x) || (a && b && s && y) }) none
 idle-flags true x a b s y e k = absurd (subst T e tt)
 idle-flags false x a b true y e k = absurd (subst T k tt)
 idle-flags false x true true false y e k = refl

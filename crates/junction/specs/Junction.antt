@@ -1,6 +1,7 @@
--- Section 4: `arbitrate_junctions` of scalefx.rs for one pixel, expression by expression, in the source's order, on the same singles 0.0 and 1.0.
--- An array is a function of its index, so that `(i + 1) & 3` reads as in the source. What differs: the sum active + 2 horiz + 4 vert + 8 orient
--- becomes a whole number where the source divides it by 15.0; `recovered` in Laws shows that `decode_flags` finds that number's bits. Definitions only.
+-- Section 4: `arbitrate_junctions` of scalefx.rs for one pixel, expression by expression, in the source's order, on the same singles
+-- 0.0 and 1.0. An array is a function of its index, so that `(i + 1) & 3` reads as in the source. What differs: the sum
+-- active + 2 horiz + 4 vert + 8 orient becomes a whole number where the source divides it by 15.0; `recovered` in Laws shows that
+-- `decode_flags` finds that number's bits. Definitions only.
 use mathlib.Core.Bool.{cond, _&&_}
 use Prim.Native.Nat.{ℕ, zero, suc, _+_}
 use lib.Bits.{bitAnd}

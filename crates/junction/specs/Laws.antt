@@ -1,5 +1,6 @@
--- What is claimed of the junction numbers of a pixel: each is below 16, with horizontal and vertical never together and neither where the edges are equal
--- (`numbers`); `decode_flags` finds the number's bits in the source's single (`recovered`); a pixel among equal ones has none (`flat`). Assumes nothing.
+-- What is claimed of the junction numbers of a pixel: each is below 16, with horizontal and vertical never together and neither
+-- where the edges are equal (`numbers`); `decode_flags` finds the number's bits in the source's single (`recovered`); a pixel among
+-- equal ones has none (`flat`). Assumes nothing.
 use mathlib.Core.Path.{_≡_, subst}
 use mathlib.Core.Bool.{Bool, true, false, _&&_}
 use Prim.Native.Nat.{ℕ, _+_, _/_, _%_, _<_, _≤_}
@@ -13,7 +14,8 @@ use Rattle.metric.specs.declared.Weights.{Weights}
 use Rattle.single.specs.Single.{f0, f½, _⊕_, _⊗_, _⊘_, minOf}
 use Rattle.junction.specs.Junction.{activeOf, packedOf, number, arbitrateJunctions}
 use Rattle.junction.specs.Flags.{above, bit, pair, weightlessOf, activeCorners, conditionOf, numberOf, numbersOf}
-use Rattle.junction.specs.Same.{every, flagged, source, horizontal, vertical, orientation, active-0, active-1, active-2, active-3, packed-same, same}
+use Rattle.junction.specs.Same.{every, flagged, source, horizontal, vertical, orientation}
+use Rattle.junction.specs.Same.{active-0, active-1, active-2, active-3, packed-same, same}
 use Rattle.junction.specs.Idle.{weightless-idle, number-zero}
 use Rattle.single.specs.Order.{lt-asym, level-lt}
 
@@ -73,11 +75,14 @@ Recovers a h v o = Recovered (flagged a h v o)
 recovers : (a h v o : Bool) → Recovers a h v o
 unfolding decoded add mul div toUnsigned
 recovers =
-    every Recovers
-    ((((search, search), (search, search)), ((search, search), (search, search))), (((search, search), (search, search)), ((search, search), (search, search))))
+    every Recovers (
+      (((search, search), (search, search)), ((search, search), (search, search))),
+      (((search, search), (search, search)), ((search, search), (search, search))),
+    )
 
 recovered-at : (active : Bool) (d a b : Pair) → Recovered (source active d a b)
-recovered-at active d a b = rw (packed-same active d a b) (recovers active (horizontal active d a b) (vertical active d a b) (orientation active d a b))
+recovered-at active d a b =
+    rw (packed-same active d a b) (recovers active (horizontal active d a b) (vertical active d a b) (orientation active d a b))
 
 -- metrics tl t l c r bl b br; weights tl t tr l c r bl b br
 module _ (mtl mt ml mc mr mbl mb mbr : Metric) (stl st str sl sc sr sbl sb sbr : Weights) where
@@ -119,7 +124,8 @@ pub record Flat (mtl mt ml mc mr mbl mb mbr : Metric) : Type 0 where
   pub columns : T (eq (ml .t) f0) × T (eq (mc .t) f0) × T (eq (mr .t) f0) × T (eq (mbl .t) f0) × T (eq (mb .t) f0) × T (eq (mbr .t) f0)
 
 -- the neighbours' weights are any
-pub flat : (mtl mt ml mc mr mbl mb mbr : Metric) (stl st str sl sc sr sbl sb sbr : Weights) → Flat mtl mt ml mc mr mbl mb mbr → weightlessOf sc ≡ true
+pub flat : (mtl mt ml mc mr mbl mb mbr : Metric) (stl st str sl sc sr sbl sb sbr : Weights) → Flat mtl mt ml mc mr mbl mb mbr
+    → weightlessOf sc ≡ true
     → arbitrateJunctions mtl mt ml mc mr mbl mb mbr stl st str sl sc sr sbl sb sbr ≡ record { n0 = 0; n1 = 0; n2 = 0; n3 = 0 }
 unfolding numbersOf
 flat mtl mt ml mc mr mbl mb mbr stl st str sl sc sr sbl sb sbr z e =

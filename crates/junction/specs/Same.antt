@@ -10,8 +10,10 @@ use Rattle.metric.specs.declared.Weights.{Weights}
 use Rattle.single.specs.Single.{f0, f1, f2, f4, f8, _⊕_, _⊗_, minOf}
 use Rattle.junction.specs.declared.Triple.{Triple}
 use Rattle.junction.specs.declared.Corner.{Corner}
-use Rattle.junction.specs.Junction.{inv, two, three, four, dominance, junctionCondition, majorityVote, inject, suppress, activeOf, packed, packedOf, number, arbitrateJunctions}
-use Rattle.junction.specs.Flags.{above, bit, pair, dominanceOf, voteOf, injectOf, suppressOf, at0, at1, at2, at3, activeCorners, conditionOf, numberOf, numbersOf}
+use Rattle.junction.specs.Junction.{inv, two, three, four, dominance, junctionCondition, majorityVote}
+use Rattle.junction.specs.Junction.{inject, suppress, activeOf, packed, packedOf, number, arbitrateJunctions}
+use Rattle.junction.specs.Flags.{above, bit, pair, dominanceOf, voteOf, injectOf, suppressOf, at0}
+use Rattle.junction.specs.Flags.{at1, at2, at3, activeCorners, conditionOf, numberOf, numbersOf}
 
 -- a flag as the source's single, and the source's sum of four of them
 abbrev pub fl : Bool → Float
@@ -29,7 +31,9 @@ either P p true = p .0
 either P p false = p .1
 
 pub every : (P : Bool → Bool → Bool → Bool → Type 0) → Both (λ a. Both (λ b. Both (λ c. Both (P a b c)))) → (a b c d : Bool) → P a b c d
-every P p a b c = either (P a b c) (either (λ x. Both (P a b x)) (either (λ x. Both (λ y. Both (P a x y))) (either (λ x. Both (λ y. Both (λ z. Both (P x y z)))) p a) b) c)
+every P p a b c =
+    either (P a b c) (either (λ x. Both (P a b x))
+    (either (λ x. Both (λ y. Both (P a x y))) (either (λ x. Both (λ y. Both (λ z. Both (P x y z)))) p a) b) c)
 
 -- ---- the expressions on 0.0 and 1.0
 and-flags : (a b : Bool) → fl a ⊗ fl b ≡ fl (a && b)
@@ -77,14 +81,16 @@ vote-same dom i =
     let own = above (dom i) f0 in
     let next = le (dom (bitAnd (i + 1) 3)) f0 in
     let prev = le (dom (bitAnd (i + 3) 3)) f0 in
-    rw (and-flags next prev) (cut-flags own (next && prev) (above (dom i ⊕ dom (bitAnd (i + 2) 3)) (dom (bitAnd (i + 1) 3) ⊕ dom (bitAnd (i + 3) 3))))
+    rw (and-flags next prev)
+    (cut-flags own (next && prev) (above (dom i ⊕ dom (bitAnd (i + 2) 3)) (dom (bitAnd (i + 1) 3) ⊕ dom (bitAnd (i + 3) 3))))
 
 injected : (ℕ → Bool) → (ℕ → Float) → ℕ → Bool
 injected vote stren ci =
     let left = bitAnd (ci + 1) 3 in
     let right = bitAnd (ci + 3) 3 in
     let opposite = bitAnd (ci + 2) 3 in
-    vote ci || (not (vote left) && not (vote right) && above (stren ci) f0 && (vote opposite || above (stren opposite ⊕ stren ci) (stren left ⊕ stren right)))
+    vote ci || (not (vote left) && not (vote right) && above (stren ci) f0
+    && (vote opposite || above (stren opposite ⊕ stren ci) (stren left ⊕ stren right)))
 
 inject-same : (dom stren : ℕ → Float) (ci : ℕ) → inject (majorityVote dom) stren ci ≡ fl (injected (voted dom) stren ci)
 unfolding inject injected
@@ -95,12 +101,22 @@ inject-same dom stren ci =
     let l = not (voted dom left) in
     let r = not (voted dom right) in
     let s = above (stren ci) f0 in
-    rw (vote-same dom ci, vote-same dom left, vote-same dom right, vote-same dom opposite, not-flags (voted dom left), not-flags (voted dom right), and-flags l r, and-flags (l && r) s)
+    rw (
+      vote-same dom ci,
+      vote-same dom left,
+      vote-same dom right,
+      vote-same dom opposite,
+      not-flags (voted dom left),
+      not-flags (voted dom right),
+      and-flags l r,
+      and-flags (l && r) s,
+    )
     (inject-flags (voted dom ci) (l && r && s) (voted dom opposite) (above (stren opposite ⊕ stren ci) (stren left ⊕ stren right)))
 
 -- a corner k after the suppression, with the corners before and after it
 suppress-same : (active adj : ℕ → Float) (i : ℕ) (k p n : Corner)
-    → active i ≡ fl (k .active) → adj i ≡ fl (k .vote) → active (bitAnd (i + 3) 3) ≡ fl (p .active) → active (bitAnd (i + 1) 3) ≡ fl (n .active)
+    → active i ≡ fl (k .active) → adj i ≡ fl (k .vote) → active (bitAnd (i + 3) 3) ≡ fl (p .active)
+    → active (bitAnd (i + 1) 3) ≡ fl (n .active)
     → suppress active adj i ≡ fl (k .active && (k .vote || not (p .active && n .active)))
 unfolding suppress
 suppress-same active adj i k p n ea ev ep en =
@@ -149,25 +165,29 @@ module _ (tl t tr l c r bl b br : Weights) where
   unfolding activeOf activeCorners suppressOf doms strens
   active-0 =
       let own = seen-2 (at2 tl) (at3 t) (at0 c) (at1 l) in
-      suppress-same _ _ 0 k0 k3 k1 (own .1) (own .0) (seen-1 (at2 l) (at3 c) (at0 b) (at1 bl) .1) (seen-3 (at2 t) (at3 tr) (at0 r) (at1 c) .1)
+      suppress-same _ _ 0 k0 k3 k1 (own .1) (own .0) (seen-1 (at2 l) (at3 c) (at0 b) (at1 bl) .1)
+      (seen-3 (at2 t) (at3 tr) (at0 r) (at1 c) .1)
 
   pub active-1 : activeOf tl t tr l c r bl b br 1 ≡ fl (activeCorners tl t tr l c r bl b br .a1)
   unfolding activeOf activeCorners suppressOf doms strens
   active-1 =
       let own = seen-3 (at2 t) (at3 tr) (at0 r) (at1 c) in
-      suppress-same _ _ 1 k1 k0 k2 (own .1) (own .0) (seen-2 (at2 tl) (at3 t) (at0 c) (at1 l) .1) (seen-0 (at2 c) (at3 r) (at0 br) (at1 b) .1)
+      suppress-same _ _ 1 k1 k0 k2 (own .1) (own .0) (seen-2 (at2 tl) (at3 t) (at0 c) (at1 l) .1)
+      (seen-0 (at2 c) (at3 r) (at0 br) (at1 b) .1)
 
   pub active-2 : activeOf tl t tr l c r bl b br 2 ≡ fl (activeCorners tl t tr l c r bl b br .a2)
   unfolding activeOf activeCorners suppressOf doms strens
   active-2 =
       let own = seen-0 (at2 c) (at3 r) (at0 br) (at1 b) in
-      suppress-same _ _ 2 k2 k1 k3 (own .1) (own .0) (seen-3 (at2 t) (at3 tr) (at0 r) (at1 c) .1) (seen-1 (at2 l) (at3 c) (at0 b) (at1 bl) .1)
+      suppress-same _ _ 2 k2 k1 k3 (own .1) (own .0) (seen-3 (at2 t) (at3 tr) (at0 r) (at1 c) .1)
+      (seen-1 (at2 l) (at3 c) (at0 b) (at1 bl) .1)
 
   pub active-3 : activeOf tl t tr l c r bl b br 3 ≡ fl (activeCorners tl t tr l c r bl b br .a3)
   unfolding activeOf activeCorners suppressOf doms strens
   active-3 =
       let own = seen-1 (at2 l) (at3 c) (at0 b) (at1 bl) in
-      suppress-same _ _ 3 k3 k2 k0 (own .1) (own .0) (seen-0 (at2 c) (at3 r) (at0 br) (at1 b) .1) (seen-2 (at2 tl) (at3 t) (at0 c) (at1 l) .1)
+      suppress-same _ _ 3 k3 k2 k0 (own .1) (own .0) (seen-0 (at2 c) (at3 r) (at0 br) (at1 b) .1)
+      (seen-2 (at2 tl) (at3 t) (at0 c) (at1 l) .1)
 
 -- ---- the number of a corner, of its diagonal d, orth_a and orth_b
 module _ (active : Bool) (d a b : Pair) where

@@ -205,6 +205,7 @@ fn numbers_of(
     }
 }
 
+// The junctions of a pixel, of the metrics (m..) and the weights (s..) around it: tl is top-left, c the pixel itself, br bottom-right.
 pub fn arbitrate_junctions(
     mtl: Metric,
     mt: Metric,

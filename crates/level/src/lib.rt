@@ -1,4 +1,5 @@
-// The levels of `trace_edges`, each for the four corners at once, and what those of two and three pixels away give to the tags.
+// The levels of `trace_edges`, each for the four corners at once, and what those of two and three pixels away give to the tags. A junction
+// number is active + 2 horizontal + 4 vertical + 8 orientation: of a word x of numbers, `x / 2 & ONES` are the horizontal flags.
 use junction::Junctions;
 use lanes::ONES;
 use lanes::Pair;
@@ -25,6 +26,7 @@ ghost use mathlib.Core.Path.{_≡_};
 ghost use Rattle.tag.specs.Words.{aroundOf, level2Of, level3Of, level4Near, level4Of, level5Of, level6Of};
 ghost use Rattle.tag.specs.Words.{farCorners, farMids, farOf, nothing};
 
+// The junction numbers of the pixels left, right, above and below, for each corner by its own side and by the other.
 pub fn around(l: Junctions, r: Junctions, u: Junctions, d: Junctions) -> Neighbors
     ensures { λ q. ⌜ q ≡ aroundOf l r u d ⌝ }
 {
@@ -40,6 +42,7 @@ pub fn around(l: Junctions, r: Junctions, u: Junctions, d: Junctions) -> Neighbo
     }
 }
 
+// Level 2: the mid edge between two corners, of which this one is active.
 pub fn level2(e: u32, n: Neighbors) -> Pair
     ensures { λ q. ⌜ q ≡ level2Of e n ⌝ }
 {
@@ -50,6 +53,7 @@ pub fn level2(e: u32, n: Neighbors) -> Pair
     }
 }
 
+// Level 3: the corner beyond a level 2.
 pub fn level3(p: Pair, n: Neighbors) -> Pair
     ensures { λ q. ⌜ q ≡ level3Of p n ⌝ }
 {
@@ -61,7 +65,7 @@ pub fn level3(p: Pair, n: Neighbors) -> Pair
     }
 }
 
-// Level 4, but for what lies two pixels away.
+// Level 4, but for what lies two pixels away: where it is 0, as on most of a page, nothing farther away counts.
 pub fn level4_near(e: u32, n: Neighbors) -> Pair
     ensures { λ q. ⌜ q ≡ level4Near e n ⌝ }
 {
@@ -75,6 +79,7 @@ pub fn level4_near(e: u32, n: Neighbors) -> Pair
     }
 }
 
+// Level 4: a run of four pixels.
 fn level4(p: Pair, n2: Neighbors) -> Pair
     ensures { λ q. ⌜ q ≡ level4Of p n2 ⌝ }
 {
@@ -84,6 +89,7 @@ fn level4(p: Pair, n2: Neighbors) -> Pair
     }
 }
 
+// Level 5: the mid edge of a run of four.
 fn level5(p: Pair, n2: Neighbors, n3: Neighbors) -> Pair
     ensures { λ q. ⌜ q ≡ level5Of p n2 n3 ⌝ }
 {
@@ -95,6 +101,7 @@ fn level5(p: Pair, n2: Neighbors, n3: Neighbors) -> Pair
     }
 }
 
+// Level 6: a run of six pixels.
 fn level6(p: Pair, n3: Neighbors) -> Pair
     ensures { λ q. ⌜ q ≡ level6Of p n3 ⌝ }
 {
@@ -106,6 +113,7 @@ fn level6(p: Pair, n3: Neighbors) -> Pair
     }
 }
 
+// What the levels 4 and 6 give to the corner tags. The tag of the second pixel in a direction is one more than that of the first.
 fn far_corners(n: Neighbors, l4: Pair, l6: Pair) -> FarCorners
     ensures { λ q. ⌜ q ≡ farCorners n l4 l6 ⌝ }
 {
@@ -119,6 +127,7 @@ fn far_corners(n: Neighbors, l4: Pair, l6: Pair) -> FarCorners
     }
 }
 
+// What level 5 gives to the mid-edge tags.
 fn far_mids(n: Neighbors, l5: Pair) -> FarMids
     ensures { λ q. ⌜ q ≡ farMids n l5 ⌝ }
 {

@@ -1,4 +1,5 @@
--- What each call leaves in the buffers that it is lent and what it answers, for every header, every length and every contents. Definitions only.
+-- What each call leaves in the buffers that it is lent and what it answers, for every header,
+-- every length and every contents. Definitions only.
 use mathlib.Core.Path.{_≡_}
 use mathlib.Core.Bool.{Bool, cond, _||_, not}
 use mathlib.Core.List.{List, _++_, map}
@@ -47,8 +48,8 @@ pub record ShowEnd : Type 0 where
   pub refusal : ℕ
   pub words : List ℕ
 
--- ---- refusals, in the order of their checks: side is the screen's limit of a side, words how many words a block has; o, p and m are the lengths of the
--- output, the picture and the marks
+-- ---- refusals, in the order of their checks: side is the screen's limit of a side, words how many words a block has; o, p and m are the
+-- lengths of the output, the picture and the marks
 
 abbrev pub sideLong : ℕ → ℕ → ℕ → Bool
 sideLong side w h = ltb side w || ltb side h
@@ -126,7 +127,8 @@ module _ (S : Screen) (w h : ℕ) where
   unfoldable pub showEnd : List ℕ → List ℕ → ℕ → ℕ → ShowEnd
   showEnd output marks bx by =
       let r = refusalShow (S .side) (blockWords S) w h (length output) marks bx by in
-      cond (eqb r 0) (record { refusal = 0; words = blockAt S w h bx by output }) (record { refusal = r; words = replicate (blockWords S) 0 })
+      cond (eqb r 0) (record { refusal = 0; words = blockAt S w h bx by output })
+      (record { refusal = r; words = replicate (blockWords S) 0 })
 
   -- ---- the calls' contracts: from the buffers at entry, what is left and answered is e
 

@@ -1,5 +1,5 @@
--- Demand 3, for a screen: what holds of every list of calls on a freshly opened session, each call being bound by its contract alone. Definitions only;
--- `proofs/Theorem.antt` proves it of the three-times screen.
+-- Demand 3, for a screen: what holds of every list of calls on a freshly opened session, each call being bound by its contract alone.
+-- Definitions only; `session/proofs/Theorem.antt` proves it of the three-times screen.
 use mathlib.Core.Path.{_≡_}
 use mathlib.Core.Bool.{Bool, true, false}
 use mathlib.Core.List.{List, [], _∷_, map}
@@ -7,7 +7,8 @@ use Prim.Native.Nat.{ℕ, suc, _+_, _-_, _*_, _<_}
 use lib.ListN.{getD, take, drop, replicate}
 use Rattle.machine.specs.Lists.{table, count}
 use Rattle.machine.specs.Screen.{Screen, blockWords}
-use Rattle.machine.specs.Machine.{State, Call, Paint, Refresh, Show, Answer, Painted, Refreshed, Shown, putAll, blockAt, opened, after, answers}
+use Rattle.machine.specs.Machine.{State, Call, Paint, Refresh, Show, Answer, Painted}
+use Rattle.machine.specs.Machine.{Refreshed, Shown, putAll, blockAt, opened, after, answers}
 use Rattle.machine.specs.Calls.{staleOf, PaintEnd, RefreshEnd, ShowEnd, Opens, Paints, Refreshes, Shows}
 
 -- a session's own buffers
@@ -34,8 +35,8 @@ pub data Ran (S : Screen) (w h : ℕ) : Buffers → List Call → List Answer �
       → Ran S w h b cs rs e
       → Ran S w h b (Show bx by ∷ cs) (Shown (d .refusal) (d .words) ∷ rs) e
 
--- an opening, given w and h, that is lent b, is not refused and answers the stale count; and a list of calls from where it ends, each lent the header
--- that the opening answered
+-- an opening, given w and h, that is lent b, is not refused and answers the stale count; and a list of calls from where it ends,
+-- each lent the header that the opening answered
 pub record Trace (S : Screen) (w h : ℕ) (b : Buffers) (stale : ℕ) (cs : List Call) (rs : List Answer) (e : Buffers) : Type 0 where
   pub width : ℕ
   pub height : ℕ
@@ -93,13 +94,15 @@ module _ (S : Screen) (w h : ℕ) where
     pub counts-down : (n k : ℕ) (more : List Call) (rs′ : List Answer) (e′ : Buffers) → Further n k more → Ran S w h e more rs′ e′
         → left e′ ≡ left e - k * n
 
-  -- of two lists, perhaps of two sessions with different first pictures: ending on the same picture with nothing stale, they hold the same output
+  -- of two lists, perhaps of two sessions with different first pictures: ending on the same picture
+  -- with nothing stale, they hold the same output
   abbrev pub SameOutput : Buffers → Buffers → Type 0
   SameOutput e e′ =
       take (w * h) (e .picture) ≡ take (w * h) (e′ .picture) → left e ≡ 0 → left e′ ≡ 0
       → take (blockWords S * (w * h)) (e .output) ≡ take (blockWords S * (w * h)) (e′ .output)
 
 pub record Demand3 (S : Screen) : Type 0 where
-  pub each : {w h stale : ℕ} {b e : Buffers} {cs : List Call} {rs : List Answer} → Trace S w h b stale cs rs e → Follows S w h b stale cs rs e
+  pub each : {w h stale : ℕ} {b e : Buffers} {cs : List Call} {rs : List Answer} → Trace S w h b stale cs rs e
+      → Follows S w h b stale cs rs e
   pub two : {w h stale stale′ : ℕ} {b b′ e e′ : Buffers} {cs cs′ : List Call} {rs rs′ : List Answer}
       → Trace S w h b stale cs rs e → Trace S w h b′ stale′ cs′ rs′ e′ → SameOutput S w h e e′

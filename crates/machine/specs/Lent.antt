@@ -1,5 +1,5 @@
--- What a call that is not refused was lent: sides within the screen's limit, a position inside the picture, and buffers, whose lengths are p, o and m, that are
--- long enough. Definitions only.
+-- What a call that is not refused was lent: sides within the screen's limit, a position inside the picture, and buffers, whose lengths are
+-- p, o and m, that are long enough. Definitions only.
 use Prim.Native.Nat.{ℕ, _+_, _*_, _≤_, _<_}
 use Rattle.machine.specs.Screen.{Screen, blockWords}
 

@@ -1,5 +1,5 @@
--- Section 7's plain machine, for a picture of w by h on a screen S. It is given the opening's w, h and picture and each call's own arguments; it takes
--- nothing from the program. Definitions only. Blocks are numbered in row order: block b is (b % w, b / w).
+-- Section 7's plain machine, for a picture of w by h on a screen S. It is given the opening's w, h and picture and each call's own
+-- arguments; it takes nothing from the program. Definitions only. Blocks are numbered in row order: block b is (b % w, b / w).
 use mathlib.Core.Bool.{Bool, true, false, cond, _&&_}
 use mathlib.Core.List.{List, [], _∷_}
 use Prim.Native.Nat.{ℕ, suc, _+_, _*_, _/_, _%_, min}
@@ -78,8 +78,8 @@ module _ (S : Screen) (w h : ℕ) where
     output = putAll (s .picture) (first k (s .stale)) (s .output);
   }
 
-  -- ---- a call: the state after it, and its answer. Of the refusals only 5 and 7 can be read on the machine's state: the opening was not refused, so the
-  -- sides are within their limit, and the machine has no buffer that could be short.
+  -- ---- a call: the state after it, and its answer. Of the refusals only 5 and 7 can be read on the machine's state: the opening was not
+  -- refused, so the sides are within their limit, and the machine has no buffer that could be short.
   abbrev pub step : Call → State → State × Answer
   step (Paint column row word) s =
       cond (inside w h column row)

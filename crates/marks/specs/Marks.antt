@@ -56,7 +56,8 @@ pub record StaleTile (w h x y k most : ℕ) (marks : List ℕ) (r : ℕ) : Type 
 abbrev pub between : ℕ → ℕ → ℕ → Bool
 between lo hi x = leb lo x && leb x hi
 
--- block b lies inside the picture, at most `side` columns beside (column, row), `up` rows above it and `down` below; a difference below 0 is 0
+-- block b lies inside the picture, at most `side` columns beside (column, row), `up` rows above
+-- it and `down` below; a difference below 0 is 0
 abbrev pub boxed : ℕ → ℕ → ℕ → ℕ → ℕ → ℕ → ℕ → ℕ → Bool
 boxed w h column row side up down b =
     ltb b (w * h) && (between (column - side) (column + side) (b % w) && between (row - up) (row + down) (b / w))

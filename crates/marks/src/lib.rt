@@ -1,7 +1,7 @@
-// The marks: a byte for each block, 0 for not stale and any other for stale. They are counted, searched for runs and tiles of stale blocks, set round a
-// position and cleared. Nothing here knows how a block is drawn, nor how far a paint reaches.
+// The marks: a byte for each block, 0 for not stale and any other for stale. They are counted, searched for runs and tiles of stale blocks,
+// set round a position and cleared. Nothing here knows how a block is drawn, nor how far a paint reaches.
 use picture::place::least;
-use picture::place::less;
+use picture::place::saturating_sub;
 ghost use mathlib.Core.Path.{_≡_};
 ghost use mathlib.Core.List.{[], _∷_};
 ghost use Prim.Native.Nat.{_+_, _*_, _<_, _≤_, min};
@@ -21,10 +21,12 @@ fn one_if_stale(mark: u8) -> u8
     0
 }
 
-// How many of the marks lo to hi - 1 are stale, of at most 224: a byte holds the count, so that the compiler takes 32
-// marks at a time.
+// How many marks are counted at a time: 7 times the 32 that the compiler takes together, as a byte counts no farther than 255.
+const RUN: usize = 7 * 32;
+
+// How many of the marks lo to hi - 1 are stale, of at most RUN: a byte holds the count, so that the compiler takes 32 together.
 fn count_run(marks: &[u8], lo: usize, hi: usize) -> u8
-    requires { ⌜ (lo ≤ hi) × ((hi ≤ lo + 224) × (hi ≤ length (now marks))) ⌝ }
+    requires { ⌜ (lo ≤ hi) × ((hi ≤ lo + 7 * 32) × (hi ≤ length (now marks))) ⌝ }
     ensures { λ r. ⌜ r ≡ count (staleIn lo hi (now (marks .entry))) ⌝ }
 {
     let mut c: u8 = 0;
@@ -39,17 +41,17 @@ fn count_run(marks: &[u8], lo: usize, hi: usize) -> u8
 // Where the run of marks that is counted from i ends.
 fn run_end(i: usize, hi: usize) -> usize
     requires { ⌜ i ≤ hi ⌝ }
-    ensures { λ r. ⌜ r ≡ min (i + 224) hi ⌝ }
+    ensures { λ r. ⌜ r ≡ min (i + 7 * 32) hi ⌝ }
 {
-    if hi - i < 224 {
+    if hi - i < RUN {
         return hi;
     }
-    i + 224
+    i + RUN
 }
 
 // How many of the marks lo to hi - 1 are stale.
 pub fn count_stale(marks: &[u8], lo: usize, hi: usize) -> u32
-    requires { ⌜ (lo ≤ hi) × ((hi ≤ 4194304) × (hi ≤ length (now marks))) ⌝ }
+    requires { ⌜ (lo ≤ hi) × ((hi ≤ 2048 * 2048) × (hi ≤ length (now marks))) ⌝ }
     ensures { λ r. ⌜ r ≡ count (staleIn lo hi (now (marks .entry))) ⌝ }
 {
     let mut c: u32 = 0;
@@ -76,7 +78,7 @@ pub fn stale_run(marks: &[u8], i: usize, most: u32) -> u32
 
 // Whether the k blocks from (x, y) on are all stale.
 fn row_stale(marks: &[u8], w: u32, x: u32, y: u32, k: u32) -> bool
-    requires { ⌜ (y * w + x + k ≤ 4194304) × (y * w + x + k ≤ length (now marks)) ⌝ }
+    requires { ⌜ (y * w + x + k ≤ 2048 * 2048) × (y * w + x + k ≤ length (now marks)) ⌝ }
     ensures { λ r. ⌜ r ≡ eqb (count (staleIn (y * w + x) (y * w + x + k) (now (marks .entry)))) k ⌝ }
 {
     let i = (y as usize) * (w as usize) + (x as usize);
@@ -124,10 +126,10 @@ pub fn mark_box(
     ensures { λ r. ⌜ now (marks .exit) ≡ stamp (boxed w h column row side up down) 1 (now (marks .entry)) ⌝ }
 {
     let width = w as usize;
-    let x0 = less(column, side) as usize;
+    let x0 = saturating_sub(column, side) as usize;
     let x1 = least(column + side + 1, w) as usize;
     let y1 = least(row + down + 1, h) as usize;
-    let mut y = less(row, up) as usize;
+    let mut y = saturating_sub(row, up) as usize;
     while y < y1 {
         mark_run(marks, y * width + x0, y * width + x1);
         y += 1;

@@ -62,7 +62,8 @@ module _ {A : Type 0} where
       ∙ ap (λ (z : List A). p ++ (v ++ z)) (drop-past p q n (length v) e ∙ drop-drop (length v) n l)
       ∙ append-assoc (take b l) u (v ++ drop (n + length v) l)
       ∙ ap (λ (z : List A). take b l ++ z) (sym (append-assoc u v (drop (n + length v) l)))
-      ∙ ap (λ (z : ℕ). take b l ++ (u ++ v ++ drop z l)) (add-assoc b (length u) (length v) ∙ ap (λ (z : ℕ). b + z) (sym (length-append u v)))
+      ∙ ap (λ (z : ℕ). take b l ++ (u ++ v ++ drop z l))
+      (add-assoc b (length u) (length v) ∙ ap (λ (z : ℕ). b + z) (sym (length-append u v)))
 
   getD-past : (p q : List A) (n m : ℕ) (d : A) → length p ≡ n → getD (p ++ q) (n + m) d ≡ getD q m d
   getD-past p q n m d e = rw (sym e) (getD-append-add p q m d)
@@ -71,7 +72,8 @@ module _ {A : Type 0} where
   pub getD-put : (b : ℕ) (vs l : List A) (i : ℕ) (d : A) → i < length vs → b ≤ length l → getD (put b vs l) (b + i) d ≡ getD vs i d
   unfolding put
   getD-put b vs l i d hi hb =
-      getD-past (take b l) (vs ++ drop (b + length vs) l) b i d (length-take-le b l hb) ∙ List·getD-append vs (drop (b + length vs) l) d i hi
+      getD-past (take b l) (vs ++ drop (b + length vs) l) b i d (length-take-le b l hb)
+      ∙ List·getD-append vs (drop (b + length vs) l) d i hi
 
   -- element j of chunk i; the chunks below the end are of one length
   pub length-flat-below : (k : ℕ) (r : ℕ → List A) (n : ℕ) → ((i : ℕ) → i < n → length (r i) ≡ k) → length (flat n r) ≡ n * k
@@ -86,7 +88,8 @@ module _ {A : Type 0} where
       → getD (flat n r) (i * k + j) d ≡ getD (r i) j d
   getD-flat-below k r zero e i j d hi hj = absurd (omega arith)
   getD-flat-below k r (suc n) e i j d hi hj =
-      by-test (length-flat-below k r n (λ i h. e i (omega arith))) (λ q. getD-flat-below k r n (λ i h. e i (omega arith)) i j d q hj) (ltb i n) refl
+      by-test (length-flat-below k r n (λ i h. e i (omega arith))) (λ q. getD-flat-below k r n (λ i h. e i (omega arith)) i j d q hj)
+      (ltb i n) refl
     where
       by-test : length (flat n r) ≡ n * k → (i < n → getD (flat n r) (i * k + j) d ≡ getD (r i) j d) → (t : Bool) → ltb i n ≡ t
           → getD (flat n r ++ r n) (i * k + j) d ≡ getD (r i) j d
@@ -99,11 +102,13 @@ module _ {A : Type 0} where
           ∙ getD-past (flat n r) (r n) (n * k) j d l
           ∙ ap (λ (m : ℕ). getD (r m) j d) (sym z)
 
-  pub getD-flat : (k : ℕ) (r : ℕ → List A) → ((i : ℕ) → length (r i) ≡ k) → (n i j : ℕ) (d : A) → i < n → j < k → getD (flat n r) (i * k + j) d ≡ getD (r i) j d
+  pub getD-flat : (k : ℕ) (r : ℕ → List A) → ((i : ℕ) → length (r i) ≡ k) → (n i j : ℕ) (d : A) → i < n → j < k
+      → getD (flat n r) (i * k + j) d ≡ getD (r i) j d
   getD-flat k r e n i j d hi hj = getD-flat-below k r n (λ i h. e i) i j d hi hj
 
   -- four stores, one after the other
-  pub stored4 : (l : List A) (i : ℕ) (a b c d : A) → i + 4 ≤ length l → set (set (set (set l i a) (i + 1) b) (i + 2) c) (i + 3) d ≡ put i (a ∷ b ∷ c ∷ d ∷ []) l
+  pub stored4 : (l : List A) (i : ℕ) (a b c d : A) → i + 4 ≤ length l
+      → set (set (set (set l i a) (i + 1) b) (i + 2) c) (i + 3) d ≡ put i (a ∷ b ∷ c ∷ d ∷ []) l
   unfolding put
   stored4 l i a b c d h =
       let e : set (set (set (set l i a) (i + 1) b) (i + 2) c) (i + 3) d ≡ sets l i (a ∷ b ∷ c ∷ d ∷ []) =
@@ -120,7 +125,8 @@ module _ {A : Type 0} where
   fill-none b k r l h = record { is = sym (put-nil b l h); long = refl }
 
   -- the chunk v, which is r n, was put at i, which is the end of the n chunks
-  pub fill-more : (b k n : ℕ) (r : ℕ → List A) (l₀ l l′ : List A) (i : ℕ) (v : List A) → ((j : ℕ) → length (r j) ≡ k) → b + (n * k + k) ≤ length l₀
+  pub fill-more : (b k n : ℕ) (r : ℕ → List A) (l₀ l l′ : List A) (i : ℕ) (v : List A) → ((j : ℕ) → length (r j) ≡ k)
+      → b + (n * k + k) ≤ length l₀
       → Filled b k n r l₀ l → i ≡ b + n * k → v ≡ r n → l′ ≡ put i v l → Filled b k (n + 1) r l₀ l′
   fill-more b k n r l₀ l l′ i v lens room f ei ev e =
       let s : l′ ≡ put (b + n * k) (r n) (put b (flat n r) l₀) = e ∙ cc (f .is) in
@@ -153,17 +159,21 @@ module _ {A : Type 0} where
 
   -- ---- a rectangle of chunks, row by row
 
-  pub getD-rect : (k cols rows : ℕ) (r : ℕ → ℕ → List A) → ((x y : ℕ) → length (r x y) ≡ k) → (x y j : ℕ) (d : A) → x < cols → y < rows → j < k
+  pub getD-rect : (k cols rows : ℕ) (r : ℕ → ℕ → List A) → ((x y : ℕ) → length (r x y) ≡ k) → (x y j : ℕ) (d : A) → x < cols → y < rows
+      → j < k
       → getD (flat rows (λ y. flat cols (λ x. r x y))) ((y * cols + x) * k + j) d ≡ getD (r x y) j d
   getD-rect k cols rows r lens x y j d hx hy hj =
       let e : (y * cols + x) * k + j ≡ y * (cols * k) + (x * k + j) =
       omega (arith, add-mul (y * cols) x k, mul-assoc y cols k) in
       ap (λ (i : ℕ). getD (flat rows (λ y. flat cols (λ x. r x y))) i d) e
-      ∙ getD-flat (cols * k) (λ y. flat cols (λ x. r x y)) (λ y. length-flat k (λ x. r x y) (λ x. lens x y) cols) rows y (x * k + j) d hy (within x cols j k hx hj)
+      ∙ getD-flat (cols * k) (λ y. flat cols (λ x. r x y)) (λ y. length-flat k (λ x. r x y) (λ x. lens x y) cols) rows y (x * k + j) d hy
+      (within x cols j k hx hj)
       ∙ getD-flat k (λ x. r x y) (λ x. lens x y) cols x j d hx hj
 
-  pub length-rect : (k cols rows : ℕ) (r : ℕ → ℕ → List A) → ((x y : ℕ) → length (r x y) ≡ k) → length (flat rows (λ y. flat cols (λ x. r x y))) ≡ rows * (cols * k)
-  length-rect k cols rows r lens = length-flat (cols * k) (λ y. flat cols (λ x. r x y)) (λ y. length-flat k (λ x. r x y) (λ x. lens x y) cols) rows
+  pub length-rect : (k cols rows : ℕ) (r : ℕ → ℕ → List A) → ((x y : ℕ) → length (r x y) ≡ k)
+      → length (flat rows (λ y. flat cols (λ x. r x y))) ≡ rows * (cols * k)
+  length-rect k cols rows r lens =
+      length-flat (cols * k) (λ y. flat cols (λ x. r x y)) (λ y. length-flat k (λ x. r x y) (λ x. lens x y) cols) rows
 
   -- three stores, one after the other
   pub stored3 : (l : List A) (i : ℕ) (a b c : A) → i + 3 ≤ length l → set (set (set l i a) (i + 1) b) (i + 2) c ≡ put i (a ∷ b ∷ c ∷ []) l
@@ -181,7 +191,8 @@ module _ {A : Type 0} where
   set-past : (vs l : List A) (i j : ℕ) (a : A) → j < i → sets (set l j a) i vs ≡ set (sets l i vs) j a
   set-past [] l i j a h = refl
   set-past (v ∷ vs) l i j a h =
-      ap (λ (m : List A). sets m (suc i) vs) (set-comm l j i a v (λ e. absurd (omega arith))) ∙ set-past vs (set l i v) (suc i) j a (omega arith)
+      ap (λ (m : List A). sets m (suc i) vs) (set-comm l j i a v (λ e. absurd (omega arith)))
+      ∙ set-past vs (set l i v) (suc i) j a (omega arith)
 
   sets-comm : (us vs l : List A) (a b : ℕ) → a + length us ≤ b → sets (sets l b vs) a us ≡ sets (sets l a us) b vs
   sets-comm [] vs l a b h = refl

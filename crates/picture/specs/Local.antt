@@ -60,7 +60,8 @@ both-r false b t = absurd t
 
 module _ {A : Type 0} {w h bx by : ℕ} {f g : ℕ → ℕ → A} where
   -- fields that agree on a rectangle with a margin agree at an offset within the margin, from each place of the rectangle
-  pub near-agrees : {l r u d : ℕ} (l′ r′ u′ d′ : ℕ) → Agree w h bx by (l + l′) (r + r′) (u + u′) (d + d′) f g → (x y : ℕ) → In w h bx by l r u d x y
+  pub near-agrees : {l r u d : ℕ} (l′ r′ u′ d′ : ℕ) → Agree w h bx by (l + l′) (r + r′) (u + u′) (d + d′) f g → (x y : ℕ)
+      → In w h bx by l r u d x y
       → (dx dy : ℤ) → T (reaches l′ r′ u′ d′ dx dy) → near w h f x y dx dy ≡ near w h g x y dx dy
   near-agrees {l} {r} {u} {d} l′ r′ u′ d′ e x y i dx dy t =
       let tx = both-l (leb (back dx) l′ && leb (ahead dx) r′) (leb (back dy) u′ && leb (ahead dy) d′) t in
@@ -74,8 +75,9 @@ module _ {A : Type 0} {w h bx by : ℕ} {f g : ℕ → ℕ → A} where
       e (moved w x dx) (moved h y dy)
       (record { on-x = omega arith; on-y = omega arith; left = omega arith; right = omega arith; above = omega arith; below = omega arith })
 
-  -- a larger rectangle
-  pub narrower : {l r u d l′ r′ u′ d′ : ℕ} → l ≤ l′ → r ≤ r′ → u ≤ u′ → d ≤ d′ → Agree w h bx by l′ r′ u′ d′ f g → Agree w h bx by l r u d f g
+  -- fields that agree on a rectangle agree on a narrower one
+  pub narrower : {l r u d l′ r′ u′ d′ : ℕ} → l ≤ l′ → r ≤ r′ → u ≤ u′ → d ≤ d′ → Agree w h bx by l′ r′ u′ d′ f g
+      → Agree w h bx by l r u d f g
   narrower hl hr hu hd e x y i =
       e x y
       (record { on-x = omega arith; on-y = omega arith; left = omega arith; right = omega arith; above = omega arith; below = omega arith })

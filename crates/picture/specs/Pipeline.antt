@@ -39,7 +39,8 @@ module _ {P M W J G : Type 0} (s : Stages P M W J G) (w h : ℕ) where
       let on = near w h v x y in
       s .junctionsOf (at (negsuc 0) (negsuc 0)) (at (pos 0) (negsuc 0)) (at (negsuc 0) (pos 0)) (at (pos 0) (pos 0)) (at (pos 1) (pos 0))
       (at (negsuc 0) (pos 1)) (at (pos 0) (pos 1)) (at (pos 1) (pos 1))
-      (on (negsuc 0) (negsuc 0)) (on (pos 0) (negsuc 0)) (on (pos 1) (negsuc 0)) (on (negsuc 0) (pos 0)) (on (pos 0) (pos 0)) (on (pos 1) (pos 0))
+      (on (negsuc 0) (negsuc 0)) (on (pos 0) (negsuc 0)) (on (pos 1) (negsuc 0)) (on (negsuc 0) (pos 0)) (on (pos 0) (pos 0))
+      (on (pos 1) (pos 0))
       (on (negsuc 0) (pos 1)) (on (pos 0) (pos 1)) (on (pos 1) (pos 1))
 
   unfoldable pub tags : (ℕ → ℕ → J) → ℕ → ℕ → G
@@ -165,4 +166,5 @@ module _ {P M W J G : Type 0} (s : Stages P M W J G) (reach : (t : G) (k : ℕ) 
       record { on-x = hx; on-y = hy; left = omega arith; right = omega arith; above = omega arith; below = omega arith } in
       let t = allTags s w h g bx by in
       ap (λ (q : G). near w h f bx by (s .offX q k) (s .offY q k)) tags-same
-      ∙ near-agrees 2 2 2 2 (narrower (omega arith) (omega arith) (omega arith) (omega arith) e) bx by i (s .offX t k) (s .offY t k) (reach t k)
+      ∙ near-agrees 2 2 2 2 (narrower (omega arith) (omega arith) (omega arith) (omega arith) e) bx by i (s .offX t k) (s .offY t k)
+      (reach t k)

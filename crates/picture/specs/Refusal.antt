@@ -1,4 +1,5 @@
--- The paper's refusal numbers, by name. Definitions only; `src/refusal.rt` has the same names for the code, and `numbers` there is proved to be `all`.
+-- The paper's refusal numbers, by name. Definitions only; `src/refusal.rt` has the same names for the
+-- code, and `numbers` there is proved to be `all`.
 use mathlib.Core.List.{List, [], _∷_}
 use Prim.Native.Nat.{ℕ}
 

@@ -1,6 +1,6 @@
 // Reading the words of a picture at signed positions, clamped to its borders.
 ghost use mathlib.Core.Path.{_≡_};
-ghost use Prim.Native.Nat.{ℕ, _+_, _*_, _<_, _≤_};
+ghost use Prim.Native.Nat.{_+_, _*_, _<_};
 ghost use Rattle.picture.specs.Picture.{clampZ, moved, near, words};
 
 pub mod place;

@@ -8,7 +8,7 @@ ghost use lib.ListN.{length};
 ghost use Rattle.text.specs.Text.{enlargedText, Prints};
 ghost use Rattle.text.specs.Writes.{Writes};
 
-// The longest file that page3x takes.
+// The longest file that page3x takes: four bytes for each of 1,024 words, and a trailer of twelve.
 pub const FILE: usize = 4108;
 // The longest text: ten bytes of a first line, and nine for each of 9 * 1,024 words.
 pub const TEXT: usize = 82954;

@@ -1,5 +1,6 @@
-// Why a call of a session is refused: the number of the first condition that holds, 0 for none. side is the screen's limit of a side, words how many words a
-// block has; p, o and m are the lengths of the picture, the output and the marks.
+// Why a call of a session is refused: the number of the first condition that holds, 0 for none. side is the screen's limit of a side, words
+// how many words a block has; p, o and m are the lengths of the picture, the output and the marks. No screen has a longer side than 2,048,
+// nor a block of more than 81 words, as many as nine-times makes of a pixel: so no product wraps.
 use picture::refusal;
 ghost use mathlib.Core.Path.{_≡_};
 ghost use Prim.Native.Nat.{_≤_};

@@ -65,6 +65,7 @@ impl Session {
     // The limit of w and of h.
     pub const SIDE: u32 = 2048;
 
+    // A session on the picture: the output's words are made 0, and every block stale.
     pub fn open(w: u32, h: u32, picture: &[u32], output: &mut [u32], marks: &mut [u8]) -> Opened
         ensures { λ r. ⌜ Opens screen3 w h (now (picture .entry)) (now (output .entry)) (now (marks .entry))
             (record {

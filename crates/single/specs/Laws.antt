@@ -1,10 +1,12 @@
--- Laws of `Root.antt` on patterns: `single` grows with the pattern; `rootBits` is the pattern of the one single nearest the root, and no root lies midway between two singles.
--- Assumes nothing.
+-- Laws of `Root.antt` on patterns: `single` grows with the pattern; `rootBits` is the pattern of the one single nearest the root, and no
+-- root lies midway between two singles. Assumes nothing.
 use mathlib.Core.Path.{_≡_, refl, sym, ap, _∙_, subst}
 use mathlib.Core.Logic.{_⊎_, inl, inr}
 use Prim.Native.Nat.{ℕ, zero, suc, _+_, _-_, _*_, _/_, _%_, _^_, _≤_, _<_, zero-le}
-use native.Mathlib.Nat.{le-refl, le-trans, le-of-eq, le-of-lt, lt-of-lt-of-le, lt-of-le-of-lt, not-le-of-lt, eq-or-lt-of-le, le-antisymm, add-zero, add-assoc, add-mul, mul-add, mul-one, one-mul}
-use native.Mathlib.Nat.{mul-comm, mul-assoc, mul-left-comm, mul-le-mul, mul-le-mul-left, mul-le-mul-right, mul-lt-mul-of-pos-right, le-mul-of-pos-right, eq-of-mul-eq-mul-right, pow-succ', pow-suc}
+use native.Mathlib.Nat.{le-refl, le-trans, le-of-eq, le-of-lt, lt-of-lt-of-le, lt-of-le-of-lt, not-le-of-lt}
+use native.Mathlib.Nat.{eq-or-lt-of-le, le-antisymm, add-zero, add-assoc, add-mul, mul-add, mul-one, one-mul}
+use native.Mathlib.Nat.{mul-comm, mul-assoc, mul-left-comm, mul-le-mul, mul-le-mul-left, mul-le-mul-right}
+use native.Mathlib.Nat.{mul-lt-mul-of-pos-right, le-mul-of-pos-right, eq-of-mul-eq-mul-right, pow-succ', pow-suc}
 use native.Mathlib.Omega.{arith}
 use mathlib.Core.Bool.{Bool, true, false, not, cond}
 use lib.Dec.{T, ltb, le→leb, leb→le, nleb→lt, not-T, T-not, lit<, lt→ltb, nltb→le, ltb→lt}
@@ -56,7 +58,14 @@ record Neighbours (c : ℕ) : Type 0 where
 neighbours : (c : ℕ) → Neighbours c
 neighbours c =
     elim (lt-or-ge c (2 ^ 23)) [
-      | inl h ↦ record { r = c; j = 0; here = single-low c h ∙ sym (mul-one c); next = up-to (c + 1) (omega arith) ∙ sym (mul-one (c + 1)); hi = omega arith; lo = inl refl }
+      | inl h ↦ record {
+        r = c;
+        j = 0;
+        here = single-low c h ∙ sym (mul-one c);
+        next = up-to (c + 1) (omega arith) ∙ sym (mul-one (c + 1));
+        hi = omega arith;
+        lo = inl refl;
+      }
       | inr h ↦
           let r = 2 ^ 23 + c % 2 ^ 23 in
           let j = c / 2 ^ 23 - 1 in
@@ -65,7 +74,9 @@ neighbours c =
             r = r;
             j = j;
             here = ap single (sym e) ∙ single-at j r (omega arith) (omega arith);
-            next = ap (λ (x : ℕ). single (x + 1)) (sym e) ∙ ap single (add-assoc (j * 2 ^ 23) r 1) ∙ single-at j (r + 1) (omega arith) (omega arith);
+            next =
+                ap (λ (x : ℕ). single (x + 1)) (sym e) ∙ ap single (add-assoc (j * 2 ^ 23) r 1)
+                ∙ single-at j (r + 1) (omega arith) (omega arith);
             hi = omega arith;
             lo = inr (omega arith);
           }
@@ -127,7 +138,8 @@ root-mono m n h = mul-le-mul-left 4 (mul-le-mul-right (2 ^ 149) h)
 
 -- a root that reaches c reaches each pattern below c, and a larger root reaches c too
 reaches-mono : (m n b c : ℕ) → m ≤ n → b ≤ c → T (reaches m c) → T (reaches n b)
-reaches-mono m n b c k h t = reaches-i n b (le-trans (middle-mono (b - 1) b (c - 1) c (omega arith) h) (le-trans (reaches-e m c t) (root-mono m n k)))
+reaches-mono m n b c k h t =
+    reaches-i n b (le-trans (middle-mono (b - 1) b (c - 1) c (omega arith) h) (le-trans (reaches-e m c t) (root-mono m n k)))
 
 -- ---- the one pattern that the root of n units reaches and whose next one it does not reach
 abbrev pub Ends : ℕ → ℕ → Type 0
@@ -135,7 +147,11 @@ Ends n t = T (reaches n t) × T (not (reaches n (t + 1)))
 
 -- a larger root ends no lower
 ends-mono : (m n s t : ℕ) → m ≤ n → Ends m s → Ends n t → s ≤ t
-ends-mono m n s t k p q = elim (lt-or-ge t s) [ inl l ↦ absurd (T-not (reaches n (t + 1)) (q .1) (reaches-mono m n (t + 1) s k (omega arith) (p .0))) | inr l ↦ l ]
+ends-mono m n s t k p q =
+    elim (lt-or-ge t s) [
+      | inl l ↦ absurd (T-not (reaches n (t + 1)) (q .1) (reaches-mono m n (t + 1) s k (omega arith) (p .0)))
+      | inr l ↦ l
+    ]
 
 ends-unique : (n s t : ℕ) → Ends n s → Ends n t → s ≡ t
 ends-unique n s t p q = le-antisymm (ends-mono n n s t (le-refl n) p q) (ends-mono n n t s (le-refl n) q p)
@@ -148,7 +164,8 @@ largest-ends (suc d) c n p q = go (reaches n (c + 2 ^ d)) refl (largest-ends d)
     twice : c + 2 ^ suc d ≡ c + 2 ^ d + 2 ^ d
     twice = omega (arith, pow-suc 2 d)
 
-    go : (b : Bool) → reaches n (c + 2 ^ d) ≡ b → ((c n : ℕ) → T (reaches n c) → T (not (reaches n (c + 2 ^ d))) → Ends n (largest d c n)) → Ends n (largest d (cond b (c + 2 ^ d) c) n)
+    go : (b : Bool) → reaches n (c + 2 ^ d) ≡ b → ((c n : ℕ) → T (reaches n c) → T (not (reaches n (c + 2 ^ d))) → Ends n (largest d c n))
+        → Ends n (largest d (cond b (c + 2 ^ d) c) n)
     go true e ih = ih (c + 2 ^ d) n (subst T (sym e) tt) (subst (λ (x : ℕ). T (not (reaches n x))) twice q)
     go false e ih = ih c n p (subst (λ (x : Bool). T (not x)) (sym e) tt)
 
@@ -172,9 +189,11 @@ pub rootBits-is : (b t : ℕ) → b < 0x7f80_0000 → Ends (single b) t → root
 rootBits-is b t h e = ends-unique (single b) (rootBits b) t (rootBits-ends b h) e
 
 pub rootBits-mono : (b c : ℕ) → b ≤ c → c < 0x7f80_0000 → rootBits b ≤ rootBits c
-rootBits-mono b c h k = ends-mono (single b) (single c) (rootBits b) (rootBits c) (single-mono b c h) (rootBits-ends b (lt-of-le-of-lt h k)) (rootBits-ends c k)
+rootBits-mono b c h k =
+    ends-mono (single b) (single c) (rootBits b) (rootBits c) (single-mono b c h) (rootBits-ends b (lt-of-le-of-lt h k)) (rootBits-ends c k)
 
--- ---- no tie. The sum of two neighbours is an odd number times a power of two, so its square is q * 2 ^ a with an odd q. Four times a single is m * 2 ^ b, with m of 24 digits.
+-- ---- no tie. The sum of two neighbours is an odd number times a power of two, so its square is q * 2 ^ a with an odd q. Four
+-- times a single is m * 2 ^ b, with m of 24 digits.
 cut : (x a y b : ℕ) → a ≤ b → x * 2 ^ a ≡ y * 2 ^ b → x ≡ y * 2 ^ (b - a)
 cut x a y b h e =
     let parts : b - a + a ≡ b = omega arith in
@@ -186,7 +205,8 @@ odd-part q a m b odd e =
       | inl l ↦
           let k = b - a - 1 in
           let one : b - a ≡ suc k = omega arith in
-          let even : q ≡ m * 2 ^ k * 2 = cut q a m b (le-of-lt l) e ∙ ap (λ (x : ℕ). m * 2 ^ x) one ∙ rw (pow-suc 2 k) (sym (mul-assoc m (2 ^ k) 2)) in
+          let even : q ≡ m * 2 ^ k * 2 =
+          cut q a m b (le-of-lt l) e ∙ ap (λ (x : ℕ). m * 2 ^ x) one ∙ rw (pow-suc 2 k) (sym (mul-assoc m (2 ^ k) 2)) in
           absurd (omega arith)
       | inr l ↦ (l, le-trans (le-mul-of-pos-right q (pow-pos (a - b))) (le-of-eq (sym (cut m b q a l (sym e)))))
     ]
@@ -210,10 +230,13 @@ no-tie b c e =
     elim (n .lo) [ inl z ↦ omega arith | inr l ↦ omega (arith, sq-next (n .r)) ]
   where
     left : (n : Neighbours c) → middle² c (c + 1) ≡ sq (n .r) * 2 ^ (n .j + n .j)
-    left n = rw (n .here, n .next, ← add-mul (n .r) (n .r + 1) (2 ^ n .j), sq-scale (n .r + (n .r + 1)) (2 ^ n .j), ← pow-add 2 (n .j) (n .j))
+    left n =
+        rw (n .here, n .next, ← add-mul (n .r) (n .r + 1) (2 ^ n .j), sq-scale (n .r + (n .r + 1)) (2 ^ n .j), ← pow-add 2 (n .j) (n .j))
 
     right : (m : Neighbours b) → root² (single b) ≡ m .r * 2 ^ (m .j + 151)
-    right m = rw (m .here, pow-add 2 (m .j) 151) (mul-comm 4 (m .r * 2 ^ m .j * 2 ^ 149) ∙ mul-assoc (m .r * 2 ^ m .j) (2 ^ 149) 4 ∙ mul-assoc (m .r) (2 ^ m .j) (2 ^ 151))
+    right m =
+        rw (m .here, pow-add 2 (m .j) 151)
+        (mul-comm 4 (m .r * 2 ^ m .j * 2 ^ 149) ∙ mul-assoc (m .r * 2 ^ m .j) (2 ^ 149) 4 ∙ mul-assoc (m .r) (2 ^ m .j) (2 ^ 151))
 
 -- ---- the root is the nearest single: the middle of the root r and any other single y is on y's side of the exact root
 pub nearest-below : (b y : ℕ) → b < 0x7f80_0000 → y < rootBits b → middle² y (rootBits b) < root² (single b)
@@ -228,7 +251,8 @@ nearest-below b y h l =
 pub nearest-above : (b y : ℕ) → b < 0x7f80_0000 → rootBits b < y → root² (single b) < middle² y (rootBits b)
 nearest-above b y h l =
     let r = rootBits b in
-    lt-of-lt-of-le (short-e (single b) (r + 1) (rootBits-ends b h .1)) (le-trans (middle-mono (r + 1 - 1) (r + 1) r y (omega arith) (omega arith)) (le-of-eq (middle-comm r y)))
+    lt-of-lt-of-le (short-e (single b) (r + 1) (rootBits-ends b h .1))
+    (le-trans (middle-mono (r + 1 - 1) (r + 1) r y (omega arith) (omega arith)) (le-of-eq (middle-comm r y)))
   where
     middle-comm : (c d : ℕ) → middle² c d ≡ middle² d c
     middle-comm c d = ap (λ (s : ℕ). s * s) (omega arith)

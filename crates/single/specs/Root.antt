@@ -1,4 +1,5 @@
--- Section 2: the root of a single is the single nearest its exact square root. Definitions only; `RootTheorems.antt` says what is proved of them.
+-- Section 2: the root of a single is the single nearest its exact square root. Definitions only;
+-- `RootTheorems.antt` says what is proved of them.
 use Prim.Native.Nat.{ℕ, zero, suc, _+_, _-_, _*_, _/_, _%_, _^_}
 use mathlib.Core.Bool.{Bool, true, false, cond}
 use lib.Dec.{leb, ltb}
@@ -7,12 +8,14 @@ use Rattle.picture.specs.Refusal.{none, operand}
 use Rattle.single.specs.Single.{f0}
 use Rattle.single.specs.declared.Rooted.{Rooted}
 
--- The singles without sign bit, in their order, have the bit patterns 0, 1, 2, .. `single c` is the size of the one with the pattern c, in units of 2 ^ -149, of which
--- every finite single is a whole number: below 2 ^ 23 it is c itself, and from there on c's 23 low digits after a leading one, scaled by c's exponent field.
+-- The singles without sign bit, in their order, have the bit patterns 0, 1, 2, .. `single c` is the size of the one with the pattern c, in
+-- units of 2 ^ -149, of which every finite single is a whole number: below 2 ^ 23 it is c itself, and from there on c's 23 low digits
+-- after a leading one, scaled by c's exponent field.
 unfoldable pub single : ℕ → ℕ
 single c = cond (ltb c (2 ^ 23)) c ((2 ^ 23 + c % 2 ^ 23) * 2 ^ (c / 2 ^ 23 - 1))
 
--- The root of n units is no less than the middle of the single c and the one below it: ((single (c - 1) + single c) / 2) ^ 2 ≤ n * 2 ^ 149, in whole numbers.
+-- The root of n units is no less than the middle of the single c and the one below it:
+-- ((single (c - 1) + single c) / 2) ^ 2 ≤ n * 2 ^ 149, in whole numbers.
 unfoldable pub reaches : ℕ → ℕ → Bool
 unfolding single
 reaches n c = let sum = single (c - 1) + single c in leb (sum * sum) (4 * (n * 2 ^ 149))

@@ -24,8 +24,9 @@ pub record IsRoot (sqrt : Float → Float) : Type 0 where
   -- a single that is finite and has no sign bit
   pub held : (x : Float) → T (fits binary32 x) → T (rooted x) → T (fits binary32 (sqrt x))
   pub unsigned : (x : Float) → T (fits binary32 x) → T (rooted x) → T (rooted (sqrt x))
-  -- The nearest: with X, R and Y units in x, its root and any other single y, the middle of R and Y lies on Y's side of the exact root of X.
-  -- In whole numbers the middle is (Y + R) / 2, and the exact root's square is X * 2 ^ 149. Never are they equal, so no other single is as near.
+  -- The nearest: with X, R and Y units in x, its root and any other single y, the middle of R and Y lies on Y's side of
+  -- the exact root of X. In whole numbers the middle is (Y + R) / 2, and the exact root's square is X * 2 ^ 149. Never
+  -- are they equal, so no other single is as near.
   pub lower : (x y : Float) (X R Y : ℕ) → Units x X → Units (sqrt x) R → Units y Y → Y < R → (Y + R) * (Y + R) < 4 * (X * 2 ^ 149)
   pub higher : (x y : Float) (X R Y : ℕ) → Units x X → Units (sqrt x) R → Units y Y → R < Y → 4 * (X * 2 ^ 149) < (Y + R) * (Y + R)
   -- a larger single has no smaller root
@@ -50,6 +51,7 @@ is-root =
       2⁻¹⁶ = sqrt-2⁻¹⁶;
     }
 
--- No tie exists: twice the middle of two neighbouring singles is the sum of the two, and its square is never four times the square of a single's root.
+-- No tie exists: twice the middle of two neighbouring singles is the sum of the two, and its square is
+-- never four times the square of a single's root.
 pub no-tie : (b c : ℕ) → (single c + single (c + 1)) * (single c + single (c + 1)) ≡ 4 * (single b * 2 ^ 149) → ⊥
 no-tie = Laws.no-tie

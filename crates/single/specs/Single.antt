@@ -1,4 +1,5 @@
--- Singles, which are binary32's values, as the source writes them: its constants, its operators, each rounded once, and `max`, `min` and `clamp`. Definitions only.
+-- Singles, which are binary32's values, as the source writes them: its constants, its operators, each rounded once,
+-- and `max`, `min` and `clamp`. Definitions only.
 use mathlib.Core.Bool.{false, cond}
 use lib.IntN.{pos, negsuc}
 use lib.Ieee.{Float, fin, binary32, add, sub, mul, div, lt}
@@ -42,8 +43,8 @@ x ⊗ y = mul binary32 x y
 abbrev pub _⊘_ : Float → Float → Float
 x ⊘ y = div binary32 x y
 
--- x.max(y), x.min(y) and x.clamp(lo, hi), as Rust defines them where no operand is a NaN. Where neither of two is larger, `max` and `min` take the second:
--- that shows only in +0.0 and -0.0, of which Rust may take either.
+-- x.max(y), x.min(y) and x.clamp(lo, hi), as Rust defines them where no operand is a NaN. Where neither of two is larger, `max` and `min`
+-- take the second: that shows only in +0.0 and -0.0, of which Rust may take either.
 unfoldable pub maxOf : Float → Float → Float
 maxOf x y = cond (lt y x) x y
 

@@ -26,7 +26,12 @@ zero (fin s m e) h = record { sign = s; exponent = e; is = ap (λ (n : ℕ). fin
   where
     none : (m ≡ 0) ⊎ (0 < m) → m ≡ 0
     none (inl z) = z
-    none (inr p) = omega (arith, mul-pos p (up-pos e), eqb→eq (m * up e * 1) (0 * down e) (and-l (eqb (m * up e * 1) (0 * down e)) (Bool·beq s false || eqb (m * up e * 1) 0) h))
+    none (inr p) =
+        omega (
+          arith,
+          mul-pos p (up-pos e),
+          eqb→eq (m * up e * 1) (0 * down e) (and-l (eqb (m * up e * 1) (0 * down e)) (Bool·beq s false || eqb (m * up e * 1) 0) h),
+        )
 
 round-zero : (s : Bool) (c : ℕ) → 0 < c → Zero (round binary32 s 0 c)
 unfolding round
@@ -48,11 +53,14 @@ unfolding add
 add-zero z w =
     let e = z .exponent in
     let d = w .exponent in
-    rw (z .is, w .is, zero-mul (up e), zero-mul (up d), zero-mul (down e), zero-mul (down d)) (sum-zero (z .sign) (w .sign) (down e * down d) (mul-pos (down-pos e) (down-pos d)))
+    rw (z .is, w .is, zero-mul (up e), zero-mul (up d), zero-mul (down e), zero-mul (down d))
+    (sum-zero (z .sign) (w .sign) (down e * down d) (mul-pos (down-pos e) (down-pos d)))
 
 pub twice-zero : {x : Float} → Zero x → Zero (f2 ⊗ x)
 unfolding mul
-twice-zero z = rw (z .is, zero-mul (up (z .exponent))) (round-zero (unlike false (z .sign)) (1 * down (z .exponent)) (mul-pos (pow-pos 0) (down-pos (z .exponent))))
+twice-zero z =
+    rw (z .is, zero-mul (up (z .exponent)))
+    (round-zero (unlike false (z .sign)) (1 * down (z .exponent)) (mul-pos (pow-pos 0) (down-pos (z .exponent))))
 
 pub min-zero : {x y : Float} → Zero x → Zero y → Zero (minOf x y)
 unfolding minOf

@@ -1,6 +1,6 @@
 // Singles: the square root, rounded to the nearest single, and the larger, the smaller and the clamped of singles as Rust has them.
 ghost use mathlib.Core.Path.{_≡_};
-ghost use Prim.Native.Nat.{ℕ, _^_, _<_};
+ghost use Prim.Native.Nat.{_<_};
 ghost use lib.Dec.{T};
 ghost use Rattle.single.specs.Root.{rootBits, sqrtOf, rooted, rootAnswer};
 ghost use Rattle.single.specs.Near.{PartsOf};

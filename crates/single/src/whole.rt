@@ -1,6 +1,5 @@
 // The whole number nearest the root of a whole number w from 2 ^ 46 to 2 ^ 48: guessed, and certified by comparing squares.
-ghost use mathlib.Core.Path.{_≡_};
-ghost use Prim.Native.Nat.{ℕ, _+_, _-_, _*_, _/_, _%_, _^_, _≤_, _<_};
+ghost use Prim.Native.Nat.{_+_, _-_, _*_, _/_, _%_, _^_, _≤_, _<_};
 ghost use Rattle.single.specs.Near.{Near};
 
 // The whole part of w's root, by halves.

@@ -38,21 +38,33 @@ module _ (e dl dl2 dl3 dr dr2 dr3 du du2 du3 dd dd2 dd3 : JunctionFlags) where
 
   pub corner-le : (i : ℕ) → c i ≤ 8
   unfolding cornerTag
-  corner-le zero = or-else _ _ _ tt (or-else _ _ _ tt (or-else _ _ _ tt (or-else _ _ _ tt (or-else _ _ _ tt (or-else _ _ _ tt (or-else _ _ _ tt (or-else _ _ _ tt (lit≤ tt))))))))
-  corner-le (suc zero) = or-else _ _ _ tt (or-else _ _ _ tt (or-else _ _ _ tt (or-else _ _ _ tt (or-else _ _ _ tt (or-else _ _ _ tt (or-else _ _ _ tt (or-else _ _ _ tt (lit≤ tt))))))))
-  corner-le (suc (suc zero)) = or-else _ _ _ tt (or-else _ _ _ tt (or-else _ _ _ tt (or-else _ _ _ tt (or-else _ _ _ tt (or-else _ _ _ tt (or-else _ _ _ tt (or-else _ _ _ tt (lit≤ tt))))))))
-  corner-le (suc (suc (suc i))) = or-else _ _ _ tt (or-else _ _ _ tt (or-else _ _ _ tt (or-else _ _ _ tt (or-else _ _ _ tt (or-else _ _ _ tt (or-else _ _ _ tt (or-else _ _ _ tt (lit≤ tt))))))))
+  corner-le zero =
+      or-else _ _ _ tt (or-else _ _ _ tt (or-else _ _ _ tt (or-else _ _ _ tt
+      (or-else _ _ _ tt (or-else _ _ _ tt (or-else _ _ _ tt (or-else _ _ _ tt (lit≤ tt))))))))
+  corner-le (suc zero) =
+      or-else _ _ _ tt (or-else _ _ _ tt (or-else _ _ _ tt (or-else _ _ _ tt
+      (or-else _ _ _ tt (or-else _ _ _ tt (or-else _ _ _ tt (or-else _ _ _ tt (lit≤ tt))))))))
+  corner-le (suc (suc zero)) =
+      or-else _ _ _ tt (or-else _ _ _ tt (or-else _ _ _ tt (or-else _ _ _ tt
+      (or-else _ _ _ tt (or-else _ _ _ tt (or-else _ _ _ tt (or-else _ _ _ tt (lit≤ tt))))))))
+  corner-le (suc (suc (suc i))) =
+      or-else _ _ _ tt (or-else _ _ _ tt (or-else _ _ _ tt (or-else _ _ _ tt
+      (or-else _ _ _ tt (or-else _ _ _ tt (or-else _ _ _ tt (or-else _ _ _ tt (lit≤ tt))))))))
 
   pub mid-le : (i : ℕ) → m i ≤ 8
   unfolding midTag
   mid-le zero =
-      or-else _ _ _ tt (or-else _ _ _ tt (or-else _ _ _ tt (or-else _ _ _ tt (or-else _ _ _ tt (either _ _ _ (either _ _ _ (or-else _ _ _ tt (lit≤ tt)) (lit≤ tt)) (lit≤ tt))))))
+      or-else _ _ _ tt (or-else _ _ _ tt (or-else _ _ _ tt (or-else _ _ _ tt (or-else _ _ _ tt
+      (either _ _ _ (either _ _ _ (or-else _ _ _ tt (lit≤ tt)) (lit≤ tt)) (lit≤ tt))))))
   mid-le (suc zero) =
-      or-else _ _ _ tt (or-else _ _ _ tt (or-else _ _ _ tt (or-else _ _ _ tt (or-else _ _ _ tt (either _ _ _ (either _ _ _ (or-else _ _ _ tt (lit≤ tt)) (lit≤ tt)) (lit≤ tt))))))
+      or-else _ _ _ tt (or-else _ _ _ tt (or-else _ _ _ tt (or-else _ _ _ tt (or-else _ _ _ tt
+      (either _ _ _ (either _ _ _ (or-else _ _ _ tt (lit≤ tt)) (lit≤ tt)) (lit≤ tt))))))
   mid-le (suc (suc zero)) =
-      or-else _ _ _ tt (or-else _ _ _ tt (or-else _ _ _ tt (or-else _ _ _ tt (or-else _ _ _ tt (either _ _ _ (either _ _ _ (or-else _ _ _ tt (lit≤ tt)) (lit≤ tt)) (lit≤ tt))))))
+      or-else _ _ _ tt (or-else _ _ _ tt (or-else _ _ _ tt (or-else _ _ _ tt (or-else _ _ _ tt
+      (either _ _ _ (either _ _ _ (or-else _ _ _ tt (lit≤ tt)) (lit≤ tt)) (lit≤ tt))))))
   mid-le (suc (suc (suc i))) =
-      or-else _ _ _ tt (or-else _ _ _ tt (or-else _ _ _ tt (or-else _ _ _ tt (or-else _ _ _ tt (either _ _ _ (either _ _ _ (or-else _ _ _ tt (lit≤ tt)) (lit≤ tt)) (lit≤ tt))))))
+      or-else _ _ _ tt (or-else _ _ _ tt (or-else _ _ _ tt (or-else _ _ _ tt (or-else _ _ _ tt
+      (either _ _ _ (either _ _ _ (or-else _ _ _ tt (lit≤ tt)) (lit≤ tt)) (lit≤ tt))))))
 
   pub traced : let t = traceFlags e dl dl2 dl3 dr dr2 dr3 du du2 du3 dd dd2 dd3 in
       Packed (t .t0) (c 0) (m 0) × Packed (t .t1) (c 1) (m 1) × Packed (t .t2) (c 2) (m 2) × Packed (t .t3) (c 3) (m 3)

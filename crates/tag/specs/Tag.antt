@@ -1,6 +1,7 @@
 -- Section 5: the tag numbers of a pixel, `trace_edges` of scalefx.rs, and the nine offsets, `neighbor_offset`. Definitions only.
 -- Names, levels and the order of the branches are the source's; an array is a function of its index, so that `l2[0][1]` reads `l2 0 1`.
--- What differs: the source divides each number by a constant (15 or 80) and recovers it by `decode_flags` and `unpack_..`; here it stays whole.
+-- What differs: the source divides each number by a constant (15 or 80) and recovers it by
+-- `decode_flags` and `unpack_..`; here it stays whole.
 use mathlib.Core.Bool.{Bool, not, cond, _&&_, _||_}
 use mathlib.Core.List.{List, [], _∷_}
 use Prim.Native.Nat.{ℕ, zero, suc, _+_, _*_, _/_, _%_}
@@ -250,7 +251,8 @@ module _ (e dl dl2 dl3 dr dr2 dr3 du du2 du3 dd dd2 dd3 : JunctionFlags) where
       else if l2 1 1 then DOWN
       else if l5 1 0 then UP2
       else if l5 1 1 then DOWN2
-      else if e .corner 1 && du .corner 3 && e .corner 2 && dd .corner 0 then (if not (eo 1) then if not (eo 2) then RIGHT else DOWN else UP)
+      else if e .corner 1 && du .corner 3 && e .corner 2 && dd .corner 0 then
+      (if not (eo 1) then if not (eo 2) then RIGHT else DOWN else UP)
       else CENTER)
       (if l2 2 0 && eo 3 || l2 2 1 && eo 2 || l5 2 0 && lo 3 || l5 2 1 && ro 2 then DOWN
       else if l2 2 0 then LEFT

@@ -66,8 +66,12 @@ level3Of p n = record {
 -- level 4, but for what lies two pixels away
 unfoldable pub level4Near : ℕ → Neighbors → Pair
 level4Near e n = record {
-  h = actives (n .hs) and across (horizontals (n .ho)) and horizontals e and across (horizontals e) and horizontals (n .ho) and across (horizontals (n .hs));
-  v = actives (n .vs) and down (verticals (n .vo)) and verticals e and down (verticals e) and verticals (n .vo) and down (verticals (n .vs));
+  h =
+      actives (n .hs) and across (horizontals (n .ho)) and horizontals e and across (horizontals e) and horizontals (n .ho)
+      and across (horizontals (n .hs));
+  v =
+      actives (n .vs) and down (verticals (n .vo)) and verticals e and down (verticals e) and verticals (n .vo)
+      and down (verticals (n .vs));
 }
 
 unfoldable pub level4Of : Pair → Neighbors → Pair

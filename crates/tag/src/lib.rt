@@ -59,6 +59,7 @@ pub struct FarMids {
     pub tag: u32,
 }
 
+// What the pixels two and three away give to the tags.
 pub struct Far {
     pub corners: FarCorners,
     pub mids: FarMids,

@@ -35,6 +35,8 @@ ghost use mathlib.Core.Path.{_≡_};
 ghost use Rattle.tag.specs.Tag.{traceEdges};
 ghost use Rattle.tag.specs.Words.{cornersOf, bothOf, midsOf, tagsWord, splitOf, nearOf};
 
+// The corner tags, from the pixel's own flags, level 3 and what lies farther away: a corner takes the first of the source's branches that
+// holds there.
 fn corners(e: u32, l3: Pair, f: FarCorners) -> u32
     ensures { λ q. ⌜ q ≡ cornersOf e l3 f ⌝ }
 {
@@ -59,7 +61,8 @@ fn both(e: u32, n: Neighbors, o1: u32, o2: u32) -> u32
     choose(all, choose(o1, choose(o2, OUTWARD, AFTER), OWN), 0)
 }
 
-// The source's [i][0] is the side's own corner at the top and on the right, the one after it at the bottom and on the left.
+// The mid-edge tags, in the same way. The source's [i][0] is the side's own corner at the top and on the right, the one after it at the
+// bottom and on the left.
 fn mids(e: u32, l2: Pair, n: Neighbors, f: FarMids) -> u32
     ensures { λ q. ⌜ q ≡ midsOf e l2 n f ⌝ }
 {
@@ -82,7 +85,7 @@ fn mids(e: u32, l2: Pair, n: Neighbors, f: FarMids) -> u32
     )
 }
 
-// c + 9m in each byte. In 64 bits, so that the sum asks no bound of its parts.
+// c + 9m in each byte. In 64 bits and modulo 2 ^ 32, so that the sum asks no bound of its parts.
 fn tags_word(e: u32, n: Neighbors, f: Far) -> u32
     ensures { λ q. ⌜ q ≡ tagsWord e n f ⌝ }
 {
@@ -92,9 +95,10 @@ fn tags_word(e: u32, n: Neighbors, f: Far) -> u32
     let fm = f.mids;
     let c = corners(e, l3, fc) as u64;
     let m = mids(e, l2, n, fm) as u64;
-    ((c + 9 * m) % 4294967296) as u32
+    ((c + 9 * m) % 0x1_0000_0000) as u32
 }
 
+// The tags that a word holds, one in each byte.
 fn split(t: u32) -> Tags
     ensures { λ q. ⌜ q ≡ splitOf t ⌝ }
 {
@@ -106,7 +110,8 @@ fn split(t: u32) -> Tags
     }
 }
 
-// What lies two and three pixels away counts only where a run of four may pass: there the tags are left at 0, for `trace_edges` to find.
+// The tags of a pixel, from its junctions and those beside it. What lies two and three pixels away counts only where a run of four may
+// pass: there the tags are left at 0, for `trace_edges` to find.
 pub fn trace_near(e: Junctions, dl: Junctions, dr: Junctions, du: Junctions, dd: Junctions) -> Near
     ensures { λ q. ⌜ q ≡ nearOf e dl dr du dd ⌝ }
 {

@@ -1,6 +1,7 @@
 // The words of the recording, one after the other from standard input.
 ghost use Prim.Native.Nat.{_<_};
 
+// A byte as a word.
 pub fn wide(x: u8) -> u32
     ensures { λ r. ⌜ r < 256 ⌝ }
 {
@@ -25,6 +26,7 @@ pub struct Head {
     pub n: u32,
 }
 
+// The head of the next picture.
 pub fn next_head() -> Head {
     let form = next();
     let w = next();

@@ -30,6 +30,7 @@ fn unequal(a: u32, b: u32) -> u64 {
     if a == b { 0 } else { 1 }
 }
 
+// Nothing compared so far.
 pub fn none() -> Tally {
     Tally {
         full: false,
@@ -78,6 +79,7 @@ impl Tally {
     }
 }
 
+// Writes what was compared, and how many values differ.
 pub fn print(t: Tally) {
     io::print_decimal(1, t.pictures);
     io::write_all(1, b" pictures, ");

@@ -10,7 +10,7 @@ use borrow.Author.Tests.{ltb-false, le-ltb, eqb-true}
 use lib.ListN.{length, take, drop, length-drop}
 use lib.Seq.{take-all}
 use Rattle.picture.specs.Fill.{put}
-use Rattle.whole.specs.Calls.{refusalOf, filled}
+use Rattle.whole.specs.Calls.{Asked, Lengths, refusalOf, filled}
 use Rattle.whole.specs.Passes.{wordsWithin}
 
 below : (a : ℕ) → a < 2 ^ 32 → a ≤ 2 ^ 32 - 1
@@ -47,34 +47,37 @@ pub whole-rest : {E : Type 0} (cut : ℕ) (l : List E) → take (length l - cut)
 whole-rest cut l = take-all (length l - cut) (drop cut l) (omega (arith, length-drop cut l))
 
 -- a call that was not refused: the conditions hold
-pub record Accepted (side w h n o m s picture output middle singles bytes : ℕ) : Type 0 where
-  pub wide : w ≤ side
-  pub high : h ≤ side
-  pub picture-fits : n ≤ picture
-  pub output-fits : o ≤ output
-  pub middle-fits : m ≤ middle
-  pub singles-fit : s ≤ singles
-  pub bytes-fit : s ≤ bytes
+pub record Accepted (asked : Asked) (lent : Lengths) : Type 0 where
+  pub wide : asked .w ≤ asked .limit
+  pub high : asked .h ≤ asked .limit
+  pub picture-fits : asked .picture ≤ lent .picture
+  pub output-fits : asked .output ≤ lent .output
+  pub middle-fits : asked .middle ≤ lent .middle
+  pub singles-fit : asked .scratch ≤ lent .singles
+  pub bytes-fit : asked .scratch ≤ lent .bytes
 
-pub accepted : (side w h n o m s p out mid si by : ℕ) → refusalOf side w h n o m s p out mid si by ≡ 0 → Accepted side w h n o m s p out mid si by
-accepted side w h n o m s p out mid si by e =
-    go (ltb side w || ltb side h) (ltb p n) (ltb out o) (ltb mid m) (ltb si s) (ltb by s) refl refl refl refl refl refl e
+pub accepted : (asked : Asked) (lent : Lengths) → refusalOf asked lent ≡ 0 → Accepted asked lent
+accepted asked lent e =
+    go (ltb (asked .limit) (asked .w) || ltb (asked .limit) (asked .h)) (ltb (lent .picture) (asked .picture)) (ltb (lent .output) (asked .output))
+    (ltb (lent .middle) (asked .middle)) (ltb (lent .singles) (asked .scratch)) (ltb (lent .bytes) (asked .scratch)) refl refl refl refl refl refl e
   where
     number : (k : ℕ) → suc k ≡ 0 → ⊥
     number k z = omega arith
 
-    go : (t1 t2 t3 t4 t5 t6 : Bool) → (ltb side w || ltb side h) ≡ t1 → ltb p n ≡ t2 → ltb out o ≡ t3 → ltb mid m ≡ t4 → ltb si s ≡ t5 → ltb by s ≡ t6
-        → cond {A = ℕ} t1 1 (cond t2 2 (cond t3 3 (cond (t4 || t5 || t6) 4 0))) ≡ 0 → Accepted side w h n o m s p out mid si by
+    go : (t1 t2 t3 t4 t5 t6 : Bool) → (ltb (asked .limit) (asked .w) || ltb (asked .limit) (asked .h)) ≡ t1
+        → ltb (lent .picture) (asked .picture) ≡ t2 → ltb (lent .output) (asked .output) ≡ t3 → ltb (lent .middle) (asked .middle) ≡ t4
+        → ltb (lent .singles) (asked .scratch) ≡ t5 → ltb (lent .bytes) (asked .scratch) ≡ t6
+        → cond {A = ℕ} t1 1 (cond t2 2 (cond t3 3 (cond (t4 || t5 || t6) 4 0))) ≡ 0 → Accepted asked lent
     go false false false false false false q1 q2 q3 q4 q5 q6 z =
-        let sd = sides side w h q1 in
+        let sd = sides (asked .limit) (asked .w) (asked .h) q1 in
         record {
           wide = sd .0;
           high = sd .1;
-          picture-fits = ltb-false p n q2;
-          output-fits = ltb-false out o q3;
-          middle-fits = ltb-false mid m q4;
-          singles-fit = ltb-false si s q5;
-          bytes-fit = ltb-false by s q6;
+          picture-fits = ltb-false (lent .picture) (asked .picture) q2;
+          output-fits = ltb-false (lent .output) (asked .output) q3;
+          middle-fits = ltb-false (lent .middle) (asked .middle) q4;
+          singles-fit = ltb-false (lent .singles) (asked .scratch) q5;
+          bytes-fit = ltb-false (lent .bytes) (asked .scratch) q6;
         }
     go true t2 t3 t4 t5 t6 q1 q2 q3 q4 q5 q6 z = absurd (number 0 z)
     go false true t3 t4 t5 t6 q1 q2 q3 q4 q5 q6 z = absurd (number 1 z)
@@ -84,15 +87,22 @@ accepted side w h n o m s p out mid si by e =
     go false false false false false true q1 q2 q3 q4 q5 q6 z = absurd (number 3 z)
 
 -- past the limit no length is looked at, so the number is that of the true product
-pub refusal-within : (side w h : ℕ) (o m s : ℕ → ℕ) (p out mid si by : ℕ) → let n = wordsWithin side w h in
-    refusalOf side w h n (o n) (m n) (s n) p out mid si by ≡ refusalOf side w h (w * h) (o (w * h)) (m (w * h)) (s (w * h)) p out mid si by
-refusal-within side w h o m s p out mid si by = go (ltb side w || ltb side h)
-  where
-    go : (t : Bool) → let n = cond t 0 (w * h) in
-        cond {A = ℕ} t 1 (cond (ltb p n) 2 (cond (ltb out (o n)) 3 (cond (ltb mid (m n) || ltb si (s n) || ltb by (s n)) 4 0)))
-        ≡ cond {A = ℕ} t 1 (cond (ltb p (w * h)) 2 (cond (ltb out (o (w * h))) 3 (cond (ltb mid (m (w * h)) || ltb si (s (w * h)) || ltb by (s (w * h))) 4 0)))
-    go true = refl
-    go false = refl
+module _ (side w h : ℕ) (o m s : ℕ → ℕ) (lent : Lengths) where
+  abbrev asking : ℕ → Asked
+  asking n = record { limit = side; w = w; h = h; picture = n; output = o n; middle = m n; scratch = s n }
+
+  pub refusal-within : refusalOf (asking (wordsWithin side w h)) lent ≡ refusalOf (asking (w * h)) lent
+  refusal-within = go (ltb side w || ltb side h)
+    where
+      -- the conditions after the first, of n words
+      rest : ℕ → ℕ
+      rest n =
+          cond (ltb (lent .picture) n) 2
+          (cond (ltb (lent .output) (o n)) 3 (cond (ltb (lent .middle) (m n) || ltb (lent .singles) (s n) || ltb (lent .bytes) (s n)) 4 0))
+
+      go : (t : Bool) → cond {A = ℕ} t 1 (rest (cond t 0 (w * h))) ≡ cond {A = ℕ} t 1 (rest (w * h))
+      go true = refl
+      go false = refl
 
 -- a buffer after a call that was refused, and after one that was not
 pub kept : {E : Type 0} (r : ℕ) (vs l : List E) → (r ≡ 0 → ⊥) → l ≡ filled r vs l

@@ -11,40 +11,83 @@ use Rattle.picture.specs.Fill.{put}
 use Rattle.picture.specs.Refusal as Refusal
 use Rattle.whole.specs.Whole.{scaleOf, singlesOf, bytesOf}
 
--- the number of the refusal, by the sizes and the buffers' lengths: side is the limit, n the words of the picture, o those of the output,
--- m those of the middle and s the singles and bytes that are asked for
-abbrev pub refusalOf : ℕ → ℕ → ℕ → ℕ → ℕ → ℕ → ℕ → ℕ → ℕ → ℕ → ℕ → ℕ → ℕ
-refusalOf side w h n o m s picture output middle singles bytes =
-    cond (ltb side w || ltb side h) Refusal.side
-    (cond (ltb picture n) Refusal.picture
-    (cond (ltb output o) Refusal.output
-    (cond (ltb middle m || ltb singles s || ltb bytes s) Refusal.scratch
+-- what a call asks for: sides within a limit, and so many words of the picture, the output and the middle, and elements of both singles
+-- and bytes
+pub record Asked : Type 0 where
+  pub limit : ℕ
+  pub w : ℕ
+  pub h : ℕ
+  pub picture : ℕ
+  pub output : ℕ
+  pub middle : ℕ
+  pub scratch : ℕ
+
+-- the lengths of the buffers that it is lent
+pub record Lengths : Type 0 where
+  pub picture : ℕ
+  pub output : ℕ
+  pub middle : ℕ
+  pub singles : ℕ
+  pub bytes : ℕ
+
+-- the number of the refusal, the first condition that holds
+abbrev pub refusalOf : Asked → Lengths → ℕ
+refusalOf asked lent =
+    cond (ltb (asked .limit) (asked .w) || ltb (asked .limit) (asked .h)) Refusal.side
+    (cond (ltb (lent .picture) (asked .picture)) Refusal.picture
+    (cond (ltb (lent .output) (asked .output)) Refusal.output
+    (cond (ltb (lent .middle) (asked .middle) || ltb (lent .singles) (asked .scratch) || ltb (lent .bytes) (asked .scratch)) Refusal.scratch
     Refusal.none)))
 
--- three-times lends no middle
+-- three-times of a picture of w by h and n words: the output has nine words for each, and no middle is lent. A word takes eight singles,
+-- a metric of four and weights of four, and eight bytes, junctions of four and tags of four
+abbrev pub asked3 : ℕ → ℕ → ℕ → Asked
+asked3 w h n = record { limit = 2048; w = w; h = h; picture = n; output = 9 * n; middle = 0; scratch = 8 * n }
+
+abbrev pub lent3 : List ℕ → List ℕ → List Float → List ℕ → Lengths
+lent3 picture output singles bytes = record {
+  picture = length picture;
+  output = length output;
+  middle = 0;
+  singles = length singles;
+  bytes = length bytes;
+}
+
 abbrev pub refusal3 : ℕ → ℕ → List ℕ → List ℕ → List Float → List ℕ → ℕ
-refusal3 w h picture output singles bytes =
-    refusalOf 2048 w h (w * h) (9 * (w * h)) 0 (8 * (w * h)) (length picture) (length output) 0 (length singles) (length bytes)
+refusal3 w h picture output singles bytes = refusalOf (asked3 w h (w * h)) (lent3 picture output singles bytes)
+
+-- nine-times: the middle is a whole three-times output, whose sides, 3 * 682 at most, are within three-times' limit, and whose own passes
+-- take the singles and bytes
+abbrev pub asked9 : ℕ → ℕ → ℕ → Asked
+asked9 w h n = record { limit = 682; w = w; h = h; picture = n; output = 81 * n; middle = 9 * n; scratch = 72 * n }
+
+abbrev pub lent9 : List ℕ → List ℕ → List ℕ → List Float → List ℕ → Lengths
+lent9 picture output middle singles bytes = record {
+  picture = length picture;
+  output = length output;
+  middle = length middle;
+  singles = length singles;
+  bytes = length bytes;
+}
 
 abbrev pub refusal9 : ℕ → ℕ → List ℕ → List ℕ → List ℕ → List Float → List ℕ → ℕ
-refusal9 w h picture output middle singles bytes =
-    refusalOf 682 w h (w * h) (81 * (w * h)) (9 * (w * h)) (72 * (w * h)) (length picture) (length output) (length middle) (length singles) (length bytes)
+refusal9 w h picture output middle singles bytes = refusalOf (asked9 w h (w * h)) (lent9 picture output middle singles bytes)
 
 -- a buffer with vs at its front, unless the call was refused
 abbrev pub filled : {E : Type 0} → ℕ → List E → List E → List E
 filled refusal vs buffer = cond (eqb refusal Refusal.none) (put 0 vs buffer) buffer
 
--- picture, output, singles, bytes at entry; output, singles, bytes at exit; the answer
-pub record Scales (w h : ℕ) (p o : List ℕ) (s : List Float) (b o′ : List ℕ) (s′ : List Float) (b′ : List ℕ) (refusal : ℕ) : Type 0 where
-  pub refusal-now : refusal ≡ refusal3 w h p o s b
-  pub output-now : o′ ≡ filled refusal (scaleOf w h (words w p)) o
-  pub singles-now : s′ ≡ filled refusal (singlesOf w h (words w p)) s
-  pub bytes-now : b′ ≡ filled refusal (bytesOf w h (words w p)) b
+-- picture, output, singles, bytes at entry; output, singles, bytes at exit; the answer r
+pub record Scales (w h : ℕ) (p o : List ℕ) (s : List Float) (b o′ : List ℕ) (s′ : List Float) (b′ : List ℕ) (r : ℕ) : Type 0 where
+  pub refusal-now : r ≡ refusal3 w h p o s b
+  pub output-now : o′ ≡ filled r (scaleOf w h (words w p)) o
+  pub singles-now : s′ ≡ filled r (singlesOf w h (words w p)) s
+  pub bytes-now : b′ ≡ filled r (bytesOf w h (words w p)) b
 
 -- the same with the middle m: the second pass runs on the whole first result
-pub record Scales9 (w h : ℕ) (p o m : List ℕ) (s : List Float) (b o′ m′ : List ℕ) (s′ : List Float) (b′ : List ℕ) (refusal : ℕ) : Type 0 where
-  pub refusal-now : refusal ≡ refusal9 w h p o m s b
-  pub middle-now : m′ ≡ filled refusal (scaleOf w h (words w p)) m
-  pub output-now : o′ ≡ filled refusal (scaleOf (3 * w) (3 * h) (words (3 * w) (scaleOf w h (words w p)))) o
-  pub singles-now : s′ ≡ filled refusal (singlesOf (3 * w) (3 * h) (words (3 * w) (scaleOf w h (words w p)))) s
-  pub bytes-now : b′ ≡ filled refusal (bytesOf (3 * w) (3 * h) (words (3 * w) (scaleOf w h (words w p)))) b
+pub record Scales9 (w h : ℕ) (p o m : List ℕ) (s : List Float) (b o′ m′ : List ℕ) (s′ : List Float) (b′ : List ℕ) (r : ℕ) : Type 0 where
+  pub refusal-now : r ≡ refusal9 w h p o m s b
+  pub middle-now : m′ ≡ filled r (scaleOf w h (words w p)) m
+  pub output-now : o′ ≡ filled r (scaleOf (3 * w) (3 * h) (words (3 * w) (scaleOf w h (words w p)))) o
+  pub singles-now : s′ ≡ filled r (singlesOf (3 * w) (3 * h) (words (3 * w) (scaleOf w h (words w p)))) s
+  pub bytes-now : b′ ≡ filled r (bytesOf (3 * w) (3 * h) (words (3 * w) (scaleOf w h (words w p)))) b

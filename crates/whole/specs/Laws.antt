@@ -42,9 +42,11 @@ module _ (ow at : ℕ) (blocks : ℕ → List ℕ) (l₀ : List ℕ) (room : at 
         let m = y₁-long in
         let k = length-put (at + ow) (strip 1 n) y₁ (omega arith) in
         put-comm (at + n * 3) (at + 2 * ow) (third 0 (blocks n)) (strip 2 n) (put (at + ow) (strip 1 n) y₁) (omega arith) (omega arith)
-        ∙ ap (put (at + 2 * ow) (strip 2 n)) (put-comm (at + n * 3) (at + ow) (third 0 (blocks n)) (strip 1 n) y₁ (omega arith) (omega arith))
+        ∙ ap (put (at + 2 * ow) (strip 2 n))
+        (put-comm (at + n * 3) (at + ow) (third 0 (blocks n)) (strip 1 n) y₁ (omega arith) (omega arith))
         ∙ ap (λ (i : ℕ). put (at + 2 * ow) (strip 2 n) (put (at + ow) (strip 1 n) (put (at + i) (third 0 (blocks n)) y₁))) (sym e0)
-        ∙ ap (λ (l : List ℕ). put (at + 2 * ow) (strip 2 n) (put (at + ow) (strip 1 n) l)) (put-put at (strip 0 n) (third 0 (blocks n)) l₀ (omega arith))
+        ∙ ap (λ (l : List ℕ). put (at + 2 * ow) (strip 2 n) (put (at + ow) (strip 1 n) l))
+        (put-put at (strip 0 n) (third 0 (blocks n)) l₀ (omega arith))
 
     y₂ : List ℕ
     y₂ = put at (strip 0 (suc n)) l₀
@@ -139,9 +141,11 @@ rect-filled w (suc n) blocks l room =
 
 -- ---- how long the lists are, and where a block's words stand
 
-pub all-length : {R E : Type 0} (elements : R → List E) → ((r : R) → length (elements r) ≡ 4) → (w h : ℕ) (f : ℕ → ℕ → R) → length (allOf elements w h f) ≡ h * (w * 4)
+pub all-length : {R E : Type 0} (elements : R → List E) → ((r : R) → length (elements r) ≡ 4) → (w h : ℕ) (f : ℕ → ℕ → R)
+    → length (allOf elements w h f) ≡ h * (w * 4)
 unfolding allOf
-all-length elements four w h f = length-flat (w * 4) (λ y. flat w (λ x. elements (f x y))) (λ y. length-flat 4 (λ x. elements (f x y)) (λ x. four (f x y)) w) h
+all-length elements four w h f =
+    length-flat (w * 4) (λ y. flat w (λ x. elements (f x y))) (λ y. length-flat 4 (λ x. elements (f x y)) (λ x. four (f x y)) w) h
 
 -- a word of a block's row
 third-word : (r c : ℕ) (b : List ℕ) → c < 3 → getD (third r b) c 0 ≡ getD b (3 * r + c) 0
@@ -165,20 +169,24 @@ module _ (w h : ℕ) (f : ℕ → ℕ → ℕ) where
   singles-length =
       let a = all-length ofMetric (λ r. refl) w h (metrics w h f) in
       let v = all-length ofWeights (λ r. refl) w h (weights w h (metrics w h f)) in
-      length-append (allOf ofMetric w h (metrics w h f)) (allOf ofWeights w h (weights w h (metrics w h f))) ∙ omega (arith, mul-assoc h w 4, mul-comm h w)
+      length-append (allOf ofMetric w h (metrics w h f)) (allOf ofWeights w h (weights w h (metrics w h f)))
+      ∙ omega (arith, mul-assoc h w 4, mul-comm h w)
 
   pub bytes-length : length (bytesOf w h f) ≡ 8 * (w * h)
   unfolding bytesOf
   bytes-length =
       let a = all-length ofJunctions (λ r. refl) w h (pictureJunctions w h f) in
       let v = all-length ofTags (λ r. refl) w h (pictureTags w h f) in
-      length-append (allOf ofJunctions w h (pictureJunctions w h f)) (allOf ofTags w h (pictureTags w h f)) ∙ omega (arith, mul-assoc h w 4, mul-comm h w)
+      length-append (allOf ofJunctions w h (pictureJunctions w h f)) (allOf ofTags w h (pictureTags w h f))
+      ∙ omega (arith, mul-assoc h w 4, mul-comm h w)
 
   -- the three rows of a row of blocks, one after the other
-  in-rows : (bx by r c : ℕ) → bx < w → r < 3 → c < 3 → getD (rowsOf w (λ x. blockOf w h f x by)) (r * (w * 3) + (bx * 3 + c)) 0 ≡ getD (third r (blockOf w h f bx by)) c 0
+  in-rows : (bx by r c : ℕ) → bx < w → r < 3 → c < 3
+      → getD (rowsOf w (λ x. blockOf w h f x by)) (r * (w * 3) + (bx * 3 + c)) 0 ≡ getD (third r (blockOf w h f bx by)) c 0
   unfolding rowsOf
   in-rows bx by r c hx hr hc =
-      getD-flat-below (w * 3) (λ q. flat w (λ x. third q (blockOf w h f x by))) 3 (λ q k. length-flat 3 (λ x. third q (blockOf w h f x by)) (λ x. refl) w) r
+      getD-flat-below (w * 3) (λ q. flat w (λ x. third q (blockOf w h f x by))) 3
+      (λ q k. length-flat 3 (λ x. third q (blockOf w h f x by)) (λ x. refl) w) r
       (bx * 3 + c) 0 hr (within bx w c 3 hx hc)
       ∙ getD-flat 3 (λ x. third r (blockOf w h f x by)) (λ x. refl) w bx c 0 hx hc
 
@@ -191,6 +199,7 @@ module _ (w h : ℕ) (f : ℕ → ℕ → ℕ) where
       omega (arith, places by r w) in
       let inner : r * (w * 3) + (bx * 3 + c) < 9 * w = omega (arith, within r 3 (bx * 3 + c) (w * 3) hr (within bx w c 3 hx hc)) in
       ap (λ (i : ℕ). getD (scaleOf w h f) i 0) place
-      ∙ getD-flat (9 * w) (λ y. rowsOf w (λ x. blockOf w h f x y)) (λ y. rows-length w (λ x. blockOf w h f x y)) h by (r * (w * 3) + (bx * 3 + c)) 0 hy inner
+      ∙ getD-flat (9 * w) (λ y. rowsOf w (λ x. blockOf w h f x y)) (λ y. rows-length w (λ x. blockOf w h f x y)) h by
+      (r * (w * 3) + (bx * 3 + c)) 0 hy inner
       ∙ in-rows bx by r c hx hr hc
       ∙ third-word r c (blockOf w h f bx by) hc

@@ -48,7 +48,8 @@ gridOf w h = record { x0 = 0; y0 = 0; cols = w; rows = h }
 rect-all : (w h : ℕ) {R E : Type 0} (elements : R → List E) (f : ℕ → ℕ → R) → rectOf elements (gridOf w h) f ≡ allOf elements w h f
 unfolding rectOf rowOf allOf
 rect-all w h elements f =
-    flat-same h _ _ (λ y hy. flat-same w _ _ (λ x hx. ap (λ (a : ℕ). elements (f a (0 + y))) (zero-add x) ∙ ap (λ (b : ℕ). elements (f x b)) (zero-add y)))
+    flat-same h _ _ (λ y hy. flat-same w _ _
+    (λ x hx. ap (λ (a : ℕ). elements (f a (0 + y))) (zero-add x) ∙ ap (λ (b : ℕ). elements (f x b)) (zero-add y)))
 
 -- two rectangles of it one after the other are one list
 joined : (w h : ℕ) {R R′ E : Type 0} (none : E) (elements : R → List E) (elements′ : R′ → List E) (f : ℕ → ℕ → R) (f′ : ℕ → ℕ → R′)
@@ -90,7 +91,8 @@ module _ (w h : ℕ) (p o o′ : List ℕ) (s s′ : List Float) (b b′ : List 
       let i : y * (w * 4) + x * 4 ≡ ((y - 0) * w + (x - 0)) * 4 = omega (arith, mul-assoc y w 4, ap (λ (n : ℕ). n * w) z) in
       let o : In w h x y 0 0 0 0 x y =
       record { on-x = hx; on-y = hy; left = omega arith; right = omega arith; above = omega arith; below = omega arith } in
-      let s : Spans (gridOf w h) w h x y 0 0 0 0 = record { left = omega arith; right = omega arith; above = omega arith; below = omega arith } in
+      let s : Spans (gridOf w h) w h x y 0 0 0 0 =
+      record { left = omega arith; right = omega arith; above = omega arith; below = omega arith } in
       ap (tagsAt held-tags) i ∙ tags-kept (gridOf w h) w h x y 0 0 0 0 s (pictureTags w h f) held-tags held x y o
 
   pub enlarged : o′ ≡ putRect (3 * w) 0 w h (λ i j. blockFrom w h f (0 + i) (0 + j) (tagsAt held-tags (j * (w * 4) + i * 4))) o

@@ -8,7 +8,7 @@ ghost use lib.ListN.{length};
 ghost use Rattle.whole.specs.Calls.{refusalOf, Scales, Scales9};
 ghost use Rattle.whole.specs.Passes.{Fits, Enlarged, wordsWithin};
 
-// The largest side of a picture that is enlarged three times, and nine times.
+// The largest side of a picture that is enlarged three times, and nine times: 3 * 682 is within 2,048.
 pub const SIDE3: u32 = 2048;
 
 pub const SIDE9: u32 = 682;
@@ -29,7 +29,9 @@ fn refusal(
     singles: usize,
     bytes: usize,
 ) -> u32
-    ensures { λ r. ⌜ r ≡ refusalOf side w h n o m s picture output middle singles bytes ⌝ }
+    ensures { λ r. ⌜ r ≡ refusalOf
+        (record { limit = side; w = w; h = h; picture = n; output = o; middle = m; scratch = s })
+        (record { picture = picture; output = output; middle = middle; singles = singles; bytes = bytes }) ⌝ }
 {
     if (side < w) | (side < h) {
         return picture::refusal::SIDE;

@@ -11,11 +11,11 @@ sides : (w h x y k r a x0 y0 x1 y1 : ℕ) → x0 ≡ x - a → y0 ≡ y - a → 
     → _≡_ {A = Grid} (record { x0 = x0; y0 = y0; cols = x1 - x0; rows = y1 - y0 }) (ringOf w h x y k r a)
 sides w h x y k r a x0 y0 x1 y1 e f i j = λ t. record { x0 = e t; y0 = f t; cols = i t - e t; rows = j t - f t }
 
-less-requires : tie.Need-less-requires
-less-requires c κs = search needs
+saturating-sub-requires : tie.Need-saturating-sub-requires
+saturating-sub-requires c κs = search needs
 
-less-requires-2 : tie.Need-less-requires-2
-less-requires-2 c κs = search needs
+saturating-sub-requires-2 : tie.Need-saturating-sub-requires-2
+saturating-sub-requires-2 c κs = search needs
 
 add-least : tie.Need-add-least
 add-least c = search needs
@@ -44,15 +44,15 @@ sub-t17 c = search needs
 returns : tie.Need-returns
 returns c =
     let a = c .before .before .before .before .args in
-    sides (a .w) (a .h) (a .x) (a .y) (a .k) (a .r) (a .a) _ _ _ _ (c .before .before .before .less .ensures) (c .before .before .less2 .ensures)
+    sides (a .w) (a .h) (a .x) (a .y) (a .k) (a .r) (a .a) _ _ _ _ (c .before .before .before .saturating-sub .ensures) (c .before .before .saturating-sub2 .ensures)
     (c .before .least .ensures) (c .least2 .ensures)
 
 pub ring-spec : {M : Type 1} → statement M
 ring-spec =
     tie.close
     (tie.spec
-    less-requires
-    less-requires-2
+    saturating-sub-requires
+    saturating-sub-requires-2
     add-least
     add-least-2
     least-requires

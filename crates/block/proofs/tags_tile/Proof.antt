@@ -4,14 +4,14 @@ use mathlib.Core.Path.{_≡_}
 use Prim.Native.Nat.{ℕ}
 use Rattle.picture.specs.Picture.{words}
 use Rattle.grid.specs.declared.Grid.{Grid}
-use Rattle.block.specs.Window.{Rooms}
+use Rattle.block.specs.Window.{Rooms, tileMetrics, tileJunctions}
 use Rattle.block.specs.Passes.{tile-rooms, tile-tagged}
 use borrow.Author.Needs.{needs}
 use Rattle.block.proofs.tags_tile.Statement.{statement}
 use Rattle.block.proofs.tags_tile.Tie as tie
 
 -- the rectangles are the ones round the tile
-roomy : {w h p s b : ℕ} {g v q t g′ v′ q′ : Grid} → g ≡ g′ → v ≡ v′ → q ≡ q′ → Rooms w h g′ v′ q′ t 1872 1232 p s b → Rooms w h g v q t 1872 1232 p s b
+roomy : {w h p s b : ℕ} {g v q t g′ v′ q′ : Grid} → g ≡ g′ → v ≡ v′ → q ≡ q′ → Rooms w h g′ v′ q′ t tileMetrics tileJunctions p s b → Rooms w h g v q t tileMetrics tileJunctions p s b
 roomy e f i k = rw (e, f, i) k
 
 ring-requires : tie.Need-ring-requires

@@ -5,20 +5,13 @@ use Rattle.grid.specs.Grid.{junctionsField}
 use Rattle.grid.specs.Kept.{start-in}
 use Rattle.grid.proofs.junctions_in.Statement.{statement}
 use Rattle.grid.proofs.junctions_in.Tie as tie
-use Rattle.grid.proofs.junctions_in.Reads as reads
-use Rattle.grid.proofs.junctions_in.Lts as lts
-use Rattle.grid.proofs.load_junctions.Reads as load-junctions-reads
-use Rattle.grid.proofs.start.Reads as start-reads
 
--- src/grid.rt:97:23
 start-requires : tie.Need-start-requires
 start-requires c κs = search needs
 
--- src/grid.rt:97:5
 load-junctions-requires : tie.Need-load-junctions-requires
 load-junctions-requires c κs = omega (arith, start-in (c .before .before .args .g) (c .before .before .args .x) (c .before .before .args .y) (c .before .before .pre .0), c .start .ensures)
 
--- src/grid.rt:93:1
 returns : tie.Need-returns
 unfolding junctionsField
 returns c = rw (c .before .start .ensures) at (c .load-junctions .ensures)

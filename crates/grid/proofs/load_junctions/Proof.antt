@@ -4,38 +4,28 @@ use mathlib.Core.Path.{refl}
 use Rattle.grid.specs.Grid.{junctionsAt}
 use Rattle.grid.proofs.load_junctions.Statement.{statement}
 use Rattle.grid.proofs.load_junctions.Tie as tie
-use Rattle.grid.proofs.load_junctions.Reads as reads
-use Rattle.grid.proofs.load_junctions.Lts as lts
 
--- src/grid.rt:61:13
 shared-slice-read-t4 : tie.Need-shared-slice-read-t4
 shared-slice-read-t4 c = search needs
 
--- src/grid.rt:62:15
 add-t5 : tie.Need-add-t5
 add-t5 c = search needs
 
--- src/grid.rt:62:13
 shared-slice-read-t7 : tie.Need-shared-slice-read-t7
 shared-slice-read-t7 c = search needs
 
--- src/grid.rt:63:15
 add-t8 : tie.Need-add-t8
 add-t8 c = search needs
 
--- src/grid.rt:63:13
 shared-slice-read-t10 : tie.Need-shared-slice-read-t10
 shared-slice-read-t10 c = search needs
 
--- src/grid.rt:64:15
 add-t11 : tie.Need-add-t11
 add-t11 c = search needs
 
--- src/grid.rt:64:13
 shared-slice-read-t13 : tie.Need-shared-slice-read-t13
 shared-slice-read-t13 c = search needs
 
--- src/grid.rt:56:1
 returns : tie.Need-returns
 unfolding junctionsAt
 returns c = refl

@@ -4,54 +4,40 @@ use mathlib.Core.Path.{refl}
 use Rattle.grid.specs.Grid.{metricAt}
 use Rattle.grid.proofs.load_metric.Statement.{statement}
 use Rattle.grid.proofs.load_metric.Tie as tie
-use Rattle.grid.proofs.load_metric.Reads as reads
-use Rattle.grid.proofs.load_metric.Lts as lts
 
--- src/grid.rt:37:13
 mul-t3 : tie.Need-mul-t3
 mul-t3 c = search needs
 
--- src/grid.rt:37:13
 shared-slice-read-t5 : tie.Need-shared-slice-read-t5
 shared-slice-read-t5 c = search needs
 
--- src/grid.rt:38:14
 add-t6 : tie.Need-add-t6
 add-t6 c = search needs
 
--- src/grid.rt:38:12
 mul-t7 : tie.Need-mul-t7
 mul-t7 c = search needs
 
--- src/grid.rt:38:12
 shared-slice-read-t9 : tie.Need-shared-slice-read-t9
 shared-slice-read-t9 c = search needs
 
--- src/grid.rt:39:15
 add-t10 : tie.Need-add-t10
 add-t10 c = search needs
 
--- src/grid.rt:39:13
 mul-t11 : tie.Need-mul-t11
 mul-t11 c = search needs
 
--- src/grid.rt:39:13
 shared-slice-read-t13 : tie.Need-shared-slice-read-t13
 shared-slice-read-t13 c = search needs
 
--- src/grid.rt:40:14
 add-t14 : tie.Need-add-t14
 add-t14 c = search needs
 
--- src/grid.rt:40:12
 mul-t15 : tie.Need-mul-t15
 mul-t15 c = search needs
 
--- src/grid.rt:40:12
 shared-slice-read-t17 : tie.Need-shared-slice-read-t17
 shared-slice-read-t17 c = search needs
 
--- src/grid.rt:32:1
 returns : tie.Need-returns
 unfolding metricAt
 returns c = refl

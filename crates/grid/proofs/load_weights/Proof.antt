@@ -4,54 +4,40 @@ use mathlib.Core.Path.{refl}
 use Rattle.grid.specs.Grid.{weightsAt}
 use Rattle.grid.proofs.load_weights.Statement.{statement}
 use Rattle.grid.proofs.load_weights.Tie as tie
-use Rattle.grid.proofs.load_weights.Reads as reads
-use Rattle.grid.proofs.load_weights.Lts as lts
 
--- src/grid.rt:49:13
 mul-t3 : tie.Need-mul-t3
 mul-t3 c = search needs
 
--- src/grid.rt:49:13
 shared-slice-read-t5 : tie.Need-shared-slice-read-t5
 shared-slice-read-t5 c = search needs
 
--- src/grid.rt:50:15
 add-t6 : tie.Need-add-t6
 add-t6 c = search needs
 
--- src/grid.rt:50:13
 mul-t7 : tie.Need-mul-t7
 mul-t7 c = search needs
 
--- src/grid.rt:50:13
 shared-slice-read-t9 : tie.Need-shared-slice-read-t9
 shared-slice-read-t9 c = search needs
 
--- src/grid.rt:51:15
 add-t10 : tie.Need-add-t10
 add-t10 c = search needs
 
--- src/grid.rt:51:13
 mul-t11 : tie.Need-mul-t11
 mul-t11 c = search needs
 
--- src/grid.rt:51:13
 shared-slice-read-t13 : tie.Need-shared-slice-read-t13
 shared-slice-read-t13 c = search needs
 
--- src/grid.rt:52:15
 add-t14 : tie.Need-add-t14
 add-t14 c = search needs
 
--- src/grid.rt:52:13
 mul-t15 : tie.Need-mul-t15
 mul-t15 c = search needs
 
--- src/grid.rt:52:13
 shared-slice-read-t17 : tie.Need-shared-slice-read-t17
 shared-slice-read-t17 c = search needs
 
--- src/grid.rt:44:1
 returns : tie.Need-returns
 unfolding weightsAt
 returns c = refl

@@ -4,42 +4,31 @@ use native.Mathlib.Omega.{arith}
 use Rattle.grid.specs.Kept.{start-in}
 use Rattle.grid.proofs.start.Statement.{statement}
 use Rattle.grid.proofs.start.Tie as tie
-use Rattle.grid.proofs.start.Reads as reads
-use Rattle.grid.proofs.start.Lts as lts
 
--- src/grid.rt:73:16
 sub-row : tie.Need-sub-row
 sub-row c = search needs
 
--- src/grid.rt:73:15
 cast-row : tie.Need-cast-row
 cast-row c = search needs
 
--- src/grid.rt:74:16
 sub-col : tie.Need-sub-col
 sub-col c = search needs
 
--- src/grid.rt:74:15
 cast-col : tie.Need-cast-col
 cast-col c = search needs
 
--- src/grid.rt:75:13
 cast-result : tie.Need-cast-result
 cast-result c = search needs
 
--- src/grid.rt:75:6
 mul-result : tie.Need-mul-result
 mul-result c = omega (arith, start-in (c .before .before .before .args .g) (c .before .before .before .args .x) (c .before .before .before .args .y) (c .before .before .before .pre .0))
 
--- src/grid.rt:75:6
 add-result : tie.Need-add-result
 add-result c = omega (arith, start-in (c .before .before .before .args .g) (c .before .before .before .args .x) (c .before .before .before .args .y) (c .before .before .before .pre .0))
 
--- src/grid.rt:75:5
 mul-result-2 : tie.Need-mul-result-2
 mul-result-2 c = omega (arith, start-in (c .before .before .before .args .g) (c .before .before .before .args .x) (c .before .before .before .args .y) (c .before .before .before .pre .0))
 
--- src/grid.rt:69:1
 returns : tie.Need-returns
 returns c = search needs
 

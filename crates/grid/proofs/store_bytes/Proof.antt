@@ -5,42 +5,31 @@ use lib.ListN.{length-set}
 use Rattle.picture.specs.Fill.{stored4}
 use Rattle.grid.proofs.store_bytes.Statement.{statement}
 use Rattle.grid.proofs.store_bytes.Tie as tie
-use Rattle.grid.proofs.store_bytes.Reads as reads
-use Rattle.grid.proofs.store_bytes.Lts as lts
 
--- src/grid.rt:125:5
 slice-write-s : tie.Need-slice-write-s
 slice-write-s c = search needs
 
--- src/grid.rt:126:7
 add-s : tie.Need-add-s
 add-s c = search needs
 
--- src/grid.rt:126:5
 slice-write-s-2 : tie.Need-slice-write-s-2
 slice-write-s-2 c = simp length-set (omega arith)
 
--- src/grid.rt:127:7
 add-s-2 : tie.Need-add-s-2
 add-s-2 c = search needs
 
--- src/grid.rt:127:5
 slice-write-s-3 : tie.Need-slice-write-s-3
 slice-write-s-3 c = simp length-set (omega arith)
 
--- src/grid.rt:128:7
 add-s-3 : tie.Need-add-s-3
 add-s-3 c = search needs
 
--- src/grid.rt:128:5
 slice-write-s-4 : tie.Need-slice-write-s-4
 slice-write-s-4 c = simp length-set (omega arith)
 
--- src/grid.rt:121:1
 same-length : tie.Need-same-length
 same-length c = search needs
 
--- src/grid.rt:121:1
 returns : tie.Need-returns
 returns c = stored4 (c .args .s .now) (c .args .i) (c .args .a) (c .args .b) (c .args .c) (c .args .d) (c .pre)
 

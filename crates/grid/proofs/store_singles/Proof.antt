@@ -5,58 +5,43 @@ use lib.ListN.{length-set}
 use Rattle.picture.specs.Fill.{stored4}
 use Rattle.grid.proofs.store_singles.Statement.{statement}
 use Rattle.grid.proofs.store_singles.Tie as tie
-use Rattle.grid.proofs.store_singles.Reads as reads
-use Rattle.grid.proofs.store_singles.Lts as lts
 
--- src/grid.rt:105:5
 mul-s : tie.Need-mul-s
 mul-s c = search needs
 
--- src/grid.rt:105:5
 slice-write-s : tie.Need-slice-write-s
 slice-write-s c = search needs
 
--- src/grid.rt:106:7
 add-s : tie.Need-add-s
 add-s c = search needs
 
--- src/grid.rt:106:5
 mul-s-2 : tie.Need-mul-s-2
 mul-s-2 c = search needs
 
--- src/grid.rt:106:5
 slice-write-s-2 : tie.Need-slice-write-s-2
 slice-write-s-2 c = simp length-set (omega arith)
 
--- src/grid.rt:107:7
 add-s-2 : tie.Need-add-s-2
 add-s-2 c = search needs
 
--- src/grid.rt:107:5
 mul-s-3 : tie.Need-mul-s-3
 mul-s-3 c = search needs
 
--- src/grid.rt:107:5
 slice-write-s-3 : tie.Need-slice-write-s-3
 slice-write-s-3 c = simp length-set (omega arith)
 
--- src/grid.rt:108:7
 add-s-3 : tie.Need-add-s-3
 add-s-3 c = search needs
 
--- src/grid.rt:108:5
 mul-s-4 : tie.Need-mul-s-4
 mul-s-4 c = search needs
 
--- src/grid.rt:108:5
 slice-write-s-4 : tie.Need-slice-write-s-4
 slice-write-s-4 c = simp length-set (omega arith)
 
--- src/grid.rt:101:1
 same-length : tie.Need-same-length
 same-length c = search needs
 
--- src/grid.rt:101:1
 returns : tie.Need-returns
 returns c = stored4 (c .args .s .now) (c .args .i) (c .args .a) (c .args .b) (c .args .c) (c .args .d) (c .pre)
 

@@ -7,8 +7,6 @@ use lib.ListN.{length}
 use Rattle.picture.specs.Fill.{within}
 use Rattle.grid.proofs.word_in.Statement.{statement}
 use Rattle.grid.proofs.word_in.Tie as tie
-use Rattle.grid.proofs.word_in.Reads as reads
-use Rattle.grid.proofs.word_in.Lts as lts
 
 inside : (c : tie.Start) → c .args .y * c .args .w + c .args .x < length (c .args .picture .now)
 inside c = omega (arith, within (c .args .y) (c .args .h) (c .args .x) (c .args .w) (c .pre .1 .0) (c .pre .0), mul-comm (c .args .w) (c .args .h))
@@ -16,19 +14,15 @@ inside c = omega (arith, within (c .args .y) (c .args .h) (c .args .x) (c .args 
 mul-i : tie.Need-mul-i
 mul-i c = omega (arith, inside c)
 
--- src/grid.rt:27:13
 add-i : tie.Need-add-i
 add-i c = omega (arith, inside c)
 
--- src/grid.rt:28:5
 mul-result : tie.Need-mul-result
 mul-result c = omega (arith, inside c)
 
--- src/grid.rt:28:5
 shared-slice-read-result : tie.Need-shared-slice-read-result
 shared-slice-read-result c = omega (arith, inside (c .before))
 
--- src/grid.rt:23:1
 returns : tie.Need-returns
 returns c = search needs
 

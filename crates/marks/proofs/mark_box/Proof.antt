@@ -31,13 +31,13 @@ record Row (w h x0 x1 y m : ℕ) : Type 0 where
 abbrev RowAt : tie.At-loop Inv-loop μ-loop → Type 0
 RowAt k =
     let s = k .before .before .before .before in
-    Row (s .before .before .args .w) (s .before .before .args .h) (s .less .result) (k .before .before .before .least .result) (k .loop .y) (length (k .loop .marks))
+    Row (s .before .before .args .w) (s .before .before .args .h) (s .saturating-sub .result) (k .before .before .before .least .result) (k .loop .y) (length (k .loop .marks))
 
 row-of : (c : tie.After-mark-run-arg Inv-loop μ-loop) → RowAt (c .before .before)
 row-of c =
     let k = c .before .before in
     let a = k .before .before .before .before .before .before .args in
-    let e = k .before .before .before .before .less .ensures in
+    let e = k .before .before .before .before .saturating-sub .ensures in
     let f = k .before .before .before .least .ensures in
     let g = k .before .before .least2 .ensures in
     record {
@@ -48,8 +48,8 @@ row-of c =
       few = area (a .w) (a .h) (omega arith) (omega arith);
     }
 
-less-requires : tie.Need-less-requires Inv-loop μ-loop
-less-requires c κs = search needs
+saturating-sub-requires : tie.Need-saturating-sub-requires Inv-loop μ-loop
+saturating-sub-requires c κs = search needs
 
 cast-x0 : tie.Need-cast-x0 Inv-loop μ-loop
 cast-x0 c = search needs
@@ -78,8 +78,8 @@ least-requires-2 c κs = search needs
 cast-y1 : tie.Need-cast-y1 Inv-loop μ-loop
 cast-y1 c = search needs
 
-less-requires-2 : tie.Need-less-requires-2 Inv-loop μ-loop
-less-requires-2 c κs = search needs
+saturating-sub-requires-2 : tie.Need-saturating-sub-requires-2 Inv-loop μ-loop
+saturating-sub-requires-2 c κs = search needs
 
 cast-y : tie.Need-cast-y Inv-loop μ-loop
 cast-y c = search needs
@@ -87,8 +87,8 @@ cast-y c = search needs
 loop-holds : tie.Need-loop-holds Inv-loop μ-loop
 loop-holds c =
     let a = c .before .before .before .before .before .args in
-    let e = c .less2 .ensures in
-    (omega arith, omega arith, refl, box-start (a .w) (a .h) (a .column) (a .row) (a .side) (a .up) (a .down) (c .less2 .result) (a .marks .now) e)
+    let e = c .saturating-sub2 .ensures in
+    (omega arith, omega arith, refl, box-start (a .w) (a .h) (a .column) (a .row) (a .side) (a .up) (a .down) (c .saturating-sub2 .result) (a .marks .now) e)
 
 mul-mark-run : tie.Need-mul-mark-run Inv-loop μ-loop
 mul-mark-run c = omega (arith, row-of c)
@@ -120,7 +120,7 @@ loop-again c =
     let hi = l .y * a .w + min (a .column + a .side + 1) (a .w) in
     let e : c .before .before .mark-run .last .0 ≡ stamp (run lo hi) 1 (l .marks) =
     c .before .before .mark-run .ensures
-    ∙ ap₂ (λ (x y : ℕ). stamp (run (l .y * a .w + x) (l .y * a .w + y)) 1 (l .marks)) (k .before .before .before .before .less .ensures)
+    ∙ ap₂ (λ (x y : ℕ). stamp (run (l .y * a .w + x) (l .y * a .w + y)) 1 (l .marks)) (k .before .before .before .before .saturating-sub .ensures)
     (k .before .before .before .least .ensures) in (
       omega arith,
       omega arith,
@@ -144,7 +144,7 @@ mark-box-spec =
     (tie.spec
     Inv-loop
     μ-loop
-    less-requires
+    saturating-sub-requires
     cast-x0
     add-least
     add-least-2
@@ -154,7 +154,7 @@ mark-box-spec =
     add-least-4
     least-requires-2
     cast-y1
-    less-requires-2
+    saturating-sub-requires-2
     cast-y
     loop-holds
     mul-mark-run

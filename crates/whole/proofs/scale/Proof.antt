@@ -3,8 +3,7 @@ use native.Mathlib.Omega.{arith}
 use mathlib.Core.Path.{_≡_, sym, _∙_, ap}
 use Prim.Native.Nat.{ℕ, _*_}
 use lib.Dec.{lit≤}
-use lib.ListN.{length}
-use Rattle.whole.specs.Calls.{refusalOf, refusal3}
+use Rattle.whole.specs.Calls.{asked3, lent3, refusalOf, refusal3}
 use Rattle.whole.proofs.Sizes.{within-small, refusal-within, accepted, kept, written}
 use borrow.Author.Needs.{needs}
 use Rattle.whole.proofs.scale.Statement.{statement}
@@ -35,10 +34,10 @@ number : (c : tie.After-refusal) → let a = c .before .before .before .before .
     c .refusal .result ≡ refusal3 (a .w) (a .h) (a .picture .now) (a .output .now) (a .singles .now) (a .bytes .now)
 number c =
     let a = c .before .before .before .before .before .before .args in
+    let l = lent3 (a .picture .now) (a .output .now) (a .singles .now) (a .bytes .now) in
     c .refusal .ensures
-    ∙ ap (λ (n : ℕ). refusalOf 2048 (a .w) (a .h) n (9 * n) 0 (8 * n) (length (a .picture .now)) (length (a .output .now)) 0 (length (a .singles .now))
-    (length (a .bytes .now))) (c .before .words-of .ensures)
-    ∙ refusal-within 2048 (a .w) (a .h) (λ n. 9 * n) (λ n. 0) (λ n. 8 * n) (length (a .picture .now)) (length (a .output .now)) 0 (length (a .singles .now)) (length (a .bytes .now))
+    ∙ ap (λ (n : ℕ). refusalOf (asked3 (a .w) (a .h) n) l) (c .before .words-of .ensures)
+    ∙ refusal-within 2048 (a .w) (a .h) (λ n. 9 * n) (λ n. 0) (λ n. 8 * n) l
 
 returns : tie.Need-returns
 returns c =
@@ -47,7 +46,8 @@ returns c =
 enlarge-requires : tie.Need-enlarge-requires
 enlarge-requires c κs =
     let a = c .before .before .before .before .before .before .before .before .before .before .args in
-    let k = accepted 2048 (a .w) (a .h) _ _ 0 _ _ _ 0 _ _ (sym (number (c .before .before .before .before)) ∙ c .before .before .before .if1 .left) in
+    let l = lent3 (a .picture .now) (a .output .now) (a .singles .now) (a .bytes .now) in
+    let k = accepted (asked3 (a .w) (a .h) (a .w * a .h)) l (sym (number (c .before .before .before .before)) ∙ c .before .before .before .if1 .left) in
     record { wide = k .wide; high = k .high; picture = k .picture-fits; output = k .output-fits; singles = k .singles-fit; bytes = k .bytes-fit }
 
 same-length : tie.Need-same-length

@@ -11,7 +11,7 @@ use Rattle.picture.specs.Picture.{words}
 use Rattle.picture.specs.Fill.{put, put-over, take-front}
 use Rattle.whole.specs.Whole.{scaleOf, singlesOf, bytesOf}
 use Rattle.whole.specs.Laws.{scale-length, singles-length, bytes-length}
-use Rattle.whole.specs.Calls.{refusalOf, refusal9}
+use Rattle.whole.specs.Calls.{asked9, lent9, refusalOf, refusal9}
 use Rattle.whole.proofs.Sizes.{within-small, within-is, nine-words, refusal-within, Accepted, accepted, kept, written}
 use borrow.Author.Needs.{needs}
 use Rattle.whole.proofs.scale9x.Statement.{statement}
@@ -49,17 +49,15 @@ number : (c : tie.After-refusal) → let a = c .before .before .before .before .
     c .refusal .result ≡ refusal9 (a .w) (a .h) (a .picture .now) (a .output .now) (a .middle .now) (a .singles .now) (a .bytes .now)
 number c =
     let a = c .before .before .before .before .before .before .before .args in
+    let l = lent9 (a .picture .now) (a .output .now) (a .middle .now) (a .singles .now) (a .bytes .now) in
     c .refusal .ensures
-    ∙ ap (λ (n : ℕ). refusalOf 682 (a .w) (a .h) n (81 * n) (9 * n) (72 * n) (length (a .picture .now)) (length (a .output .now)) (length (a .middle .now))
-    (length (a .singles .now)) (length (a .bytes .now))) (c .before .words-of .ensures)
-    ∙ refusal-within 682 (a .w) (a .h) (λ n. 81 * n) (λ n. 9 * n) (λ n. 72 * n) (length (a .picture .now)) (length (a .output .now)) (length (a .middle .now))
-    (length (a .singles .now)) (length (a .bytes .now))
+    ∙ ap (λ (n : ℕ). refusalOf (asked9 (a .w) (a .h) n) l) (c .before .words-of .ensures)
+    ∙ refusal-within 682 (a .w) (a .h) (λ n. 81 * n) (λ n. 9 * n) (λ n. 72 * n) l
 
 -- where the number is 0 the sides are within the limit and the buffers long enough
 fits : (c : tie.Else1) → let a = c .before .before .before .before .before .before .before .before .args in
-    Accepted 682 (a .w) (a .h) (a .w * a .h) (81 * (a .w * a .h)) (9 * (a .w * a .h)) (72 * (a .w * a .h)) (length (a .picture .now)) (length (a .output .now))
-    (length (a .middle .now)) (length (a .singles .now)) (length (a .bytes .now))
-fits c = let a = c .before .before .before .before .before .before .before .before .args in accepted 682 (a .w) (a .h) _ _ _ _ _ _ _ _ _ (sym (number (c .before)) ∙ c .if1 .left)
+    Accepted (asked9 (a .w) (a .h) (a .w * a .h)) (lent9 (a .picture .now) (a .output .now) (a .middle .now) (a .singles .now) (a .bytes .now))
+fits c = accepted _ _ (sym (number (c .before)) ∙ c .if1 .left)
 
 -- and the counted words are those of the picture
 counted : (c : tie.Else1) → let a = c .before .before .before .before .before .before .before .before .args in c .before .before .words-of .result ≡ a .w * a .h

@@ -1,6 +1,5 @@
 -- `draw::tile::draw_tile` meets its contract. Assumes nothing.
 use mathlib.Core.Path.{_∙_, ap}
-use mathlib.Core.List.{List}
 use Prim.Native.Nat.{ℕ, _+_, _*_}
 use native.Mathlib.Nat.{mul-le-mul-right}
 use native.Mathlib.Omega.{arith}
@@ -9,9 +8,9 @@ use lib.ListN.{length, take, drop, replicate, length-replicate}
 use Rattle.picture.specs.Picture.{words}
 use Rattle.grid.specs.Grid.{tagsAt}
 use Rattle.block.specs.Block.{blockFrom}
-use Rattle.block.specs.Store.{RectRoom, putRect}
+use Rattle.block.specs.Store.{putRect}
 use Rattle.three.proofs.Tiles.{tile-drawn}
-use Rattle.draw.proofs.Tagged.{TileTags, tile-tags, tile-room}
+use Rattle.draw.proofs.Tagged.{tile-tags, tile-room}
 use Rattle.draw.proofs.tile.draw_tile.Statement.{statement}
 use Rattle.draw.proofs.tile.draw_tile.Tie as tie
 

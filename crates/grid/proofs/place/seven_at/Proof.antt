@@ -5,14 +5,14 @@ use Rattle.grid.proofs.Moves.{back, on, stay, back-close, on-close, sta
 use Rattle.grid.proofs.place.seven_at.Statement.{statement}
 use Rattle.grid.proofs.place.seven_at.Tie as tie
 
-less-requires : tie.Need-less-requires
-less-requires c κs = search needs
+saturating-sub-requires : tie.Need-saturating-sub-requires
+saturating-sub-requires c κs = search needs
 
-less-requires-2 : tie.Need-less-requires-2
-less-requires-2 c κs = search needs
+saturating-sub-requires-2 : tie.Need-saturating-sub-requires-2
+saturating-sub-requires-2 c κs = search needs
 
-less-requires-3 : tie.Need-less-requires-3
-less-requires-3 c κs = search needs
+saturating-sub-requires-3 : tie.Need-saturating-sub-requires-3
+saturating-sub-requires-3 c κs = search needs
 
 more-requires : tie.Need-more-requires
 more-requires c κs = search needs
@@ -27,9 +27,9 @@ returns : tie.Need-returns
 returns c =
     let a = c .before .before .before .before .before .before .args in
     let p = c .before .before .before .before .before .before .pre in
-    let b3 = c .before .before .before .before .before .less .ensures in
-    let b2 = c .before .before .before .before .less2 .ensures in
-    let b1 = c .before .before .before .less3 .ensures in
+    let b3 = c .before .before .before .before .before .saturating-sub .ensures in
+    let b2 = c .before .before .before .before .saturating-sub2 .ensures in
+    let b1 = c .before .before .before .saturating-sub3 .ensures in
     let a1 = c .before .before .more .ensures in
     let a2 = c .before .more2 .ensures in
     let a3 = c .more3 .ensures in
@@ -54,9 +54,9 @@ pub seven-at-spec : {M : Type 1} → statement M
 seven-at-spec =
     tie.close
     (tie.spec
-    less-requires
-    less-requires-2
-    less-requires-3
+    saturating-sub-requires
+    saturating-sub-requires-2
+    saturating-sub-requires-3
     more-requires
     more-requires-2
     more-requires-3
