@@ -1,5 +1,5 @@
 -- What the passes ask of the rectangles that they run on, one after the other, and what they leave; the rectangles round a tile of pixels;
--- and the words that a block may have. What the code computes by; nothing of the paper's rests on it. Definitions only.
+-- and the words that a block may have. What the code computes by; nothing of the rules rests on it. Definitions only.
 use mathlib.Core.Path.{_≡_}
 use mathlib.Core.List.{List, [], _∷_}
 use Prim.Native.Nat.{ℕ, _+_, _-_, _*_, _≤_, _<_, min}

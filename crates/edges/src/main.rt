@@ -1,4 +1,4 @@
-// A session of 32 by 32 at the paper's edges: each line is what a call answered.
+// A session of 32 by 32 at the edges of docs/RULES.md: each line is what a call answered.
 use libc::STDOUT_FILENO;
 use session::Session;
 

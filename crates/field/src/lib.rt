@@ -24,7 +24,7 @@ ghost use Rattle.grid.specs.Grid.{weightsField, rowOf, rectOf};
 ghost use Rattle.grid.specs.Room.{Held, Around, Strip, Inner, Reads, Feeds};
 
 // The metric of the pixel (x, y).
-pub fn metric_at(picture: &[u32], w: u32, h: u32, x: u32, y: u32) -> Metric
+fn metric_at(picture: &[u32], w: u32, h: u32, x: u32, y: u32) -> Metric
     requires { ⌜ (x < w) × ((y < h) × (w * h ≤ length (now picture))) ⌝ }
     ensures { λ m. ⌜ m ≡ metrics w h (words w (now (picture .entry))) x y ⌝ }
 {
@@ -40,7 +40,7 @@ pub fn metric_at(picture: &[u32], w: u32, h: u32, x: u32, y: u32) -> Metric
 }
 
 // The metrics of row y of the rectangle g, from the element `at` on.
-pub fn metrics_row(picture: &[u32], w: u32, h: u32, g: Grid, y: u32, singles: &mut [f32], at: usize)
+fn metrics_row(picture: &[u32], w: u32, h: u32, g: Grid, y: u32, singles: &mut [f32], at: usize)
     requires { ⌜ (w * h ≤ length (now picture)) × ((Strip g w h y) × (at + g .cols * 4 ≤ length (now singles))) ⌝ }
     ensures { λ _. ⌜ now (singles .exit)
         ≡ put at (rowOf ofMetric g (metrics w h (words w (now (picture .entry)))) y) (now (singles .entry)) ⌝ }
@@ -76,7 +76,7 @@ pub fn metrics_rect(picture: &[u32], w: u32, h: u32, g: Grid, singles: &mut [f32
 }
 
 // The weights of (x, y), from the metrics of the rectangle g.
-pub fn weights_at(s: &[f32], g: Grid, w: u32, h: u32, x: u32, y: u32) -> Weights
+fn weights_at(s: &[f32], g: Grid, w: u32, h: u32, x: u32, y: u32) -> Weights
     requires { ⌜ (Around 1 1 g w h x y) × (Held g (length (now s))) ⌝ }
     ensures { λ q. ⌜ q ≡ weights w h (metricField g (now (s .entry))) x y ⌝ }
 {
@@ -95,16 +95,7 @@ pub fn weights_at(s: &[f32], g: Grid, w: u32, h: u32, x: u32, y: u32) -> Weights
 }
 
 // The weights of row y of the rectangle v, from the metrics of the rectangle g before `cut`, from the element `at` on.
-pub fn weights_row(
-    singles: &mut [f32],
-    cut: usize,
-    g: Grid,
-    w: u32,
-    h: u32,
-    v: Grid,
-    y: u32,
-    at: usize,
-)
+fn weights_row(singles: &mut [f32], cut: usize, g: Grid, w: u32, h: u32, v: Grid, y: u32, at: usize)
     requires { ⌜ (Held g cut) × ((cut ≤ at) × ((Reads 1 1 g w h v y) × (at + v .cols * 4 ≤ length (now singles)))) ⌝ }
     ensures { λ _. ⌜ now (singles .exit)
         ≡ put at (rowOf ofWeights v (weights w h (metricField g (take cut (now (singles .entry))))) y) (now (singles .entry)) ⌝ }
@@ -140,16 +131,7 @@ pub fn weights_rect(singles: &mut [f32], cut: usize, g: Grid, w: u32, h: u32, v:
 }
 
 // The junctions of (x, y), from the metrics of the rectangle g and the weights of the rectangle v.
-pub fn junctions_at(
-    m: &[f32],
-    g: Grid,
-    s: &[f32],
-    v: Grid,
-    w: u32,
-    h: u32,
-    x: u32,
-    y: u32,
-) -> Junctions
+fn junctions_at(m: &[f32], g: Grid, s: &[f32], v: Grid, w: u32, h: u32, x: u32, y: u32) -> Junctions
     requires { ⌜ (Around 1 1 g w h x y) × ((Held g (length (now m))) × ((Around 1 1 v w h x y) × (Held v (length (now s))))) ⌝ }
     ensures { λ q. ⌜ q ≡ junctions w h (metricField g (now (m .entry))) (weightsField v (now (s .entry))) x y ⌝ }
 {
@@ -177,7 +159,7 @@ pub fn junctions_at(
 }
 
 // The junctions of row y of the rectangle q, from metrics and weights, from the element `at` on.
-pub fn junctions_row(
+fn junctions_row(
     m: &[f32],
     g: Grid,
     s: &[f32],

@@ -133,7 +133,7 @@ fn stronger_axis(first: bool, bias: f32) -> f32
 
 // The source's `corner_weight`, of the distances at a corner: 0 where edge_dist, that of the two pixels on its sides, is at least the
 // threshold.
-pub fn corner_weight(edge_dist: f32, primary: Pair, secondary: Pair) -> f32
+fn corner_weight(edge_dist: f32, primary: Pair, secondary: Pair) -> f32
     ensures { λ r. ⌜ r ≡ cornerWeightOf «edge_dist» (primary .0) (primary .1) (secondary .0) (secondary .1) ⌝ }
 {
     let proximity = single::max(CLARITY_THRESHOLD - edge_dist, 0.0) / CLARITY_THRESHOLD;

@@ -50,7 +50,7 @@ pub struct Shown {
 const WORDS: usize = 9;
 
 // The first n words made 0.
-pub fn fill_words(output: &mut [u32], n: usize)
+fn fill_words(output: &mut [u32], n: usize)
     requires { ⌜ n ≤ length (now output) ⌝ }
     ensures { λ r. ⌜ now (output .exit) ≡ replicate n 0 ++ drop n (now (output .entry)) ⌝ }
 {

@@ -40,7 +40,7 @@ fn tags_around(j: &[u8], g: Grid, w: u32, h: u32, x: u32, y: u32) -> Tags
 
 // The same. Where the pixel itself has no flag but orientation, as many of a page, nothing around it is read, and where those
 // beside it decide, nothing farther away.
-pub fn tags_at(j: &[u8], g: Grid, w: u32, h: u32, x: u32, y: u32) -> Tags
+fn tags_at(j: &[u8], g: Grid, w: u32, h: u32, x: u32, y: u32) -> Tags
     requires { ⌜ (Around 3 3 g w h x y) × (Held g (length (now j))) ⌝ }
     ensures { λ q. ⌜ q ≡ tags w h (junctionsField g (now (j .entry))) x y ⌝ }
 {
@@ -69,7 +69,7 @@ pub fn tags_at(j: &[u8], g: Grid, w: u32, h: u32, x: u32, y: u32) -> Tags
 }
 
 // The tags of row y of the rectangle q, from the junctions of the rectangle g before `cut`, from the element `at` on.
-pub fn tags_row(bytes: &mut [u8], cut: usize, g: Grid, w: u32, h: u32, q: Grid, y: u32, at: usize)
+fn tags_row(bytes: &mut [u8], cut: usize, g: Grid, w: u32, h: u32, q: Grid, y: u32, at: usize)
     requires { ⌜ (Held g cut) × ((cut ≤ at) × ((Reads 3 3 g w h q y) × (at + q .cols * 4 ≤ length (now bytes)))) ⌝ }
     ensures { λ _. ⌜ now (bytes .exit)
         ≡ put at (rowOf ofTags q (tags w h (junctionsField g (take cut (now (bytes .entry))))) y) (now (bytes .entry)) ⌝ }
