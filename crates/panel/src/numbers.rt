@@ -3,6 +3,7 @@ ghost use mathlib.Core.Path.{_≡_};
 ghost use Rattle.single.specs.Root.{rootAnswer};
 ghost use Rattle.metric.specs.Distance.{distanceOf};
 
+// The root of x; +0.0 beside a refusal.
 #[no_mangle]
 pub extern "C" fn panel_root(x: f32, root: &mut f32) -> u32
     ensures { λ r. ⌜ record { refusal = r; root = now (root .exit) } ≡ rootAnswer x ⌝ }
@@ -12,6 +13,7 @@ pub extern "C" fn panel_root(x: f32, root: &mut f32) -> u32
     rooted.refusal
 }
 
+// How different two colours are, from 0 to 1.
 #[no_mangle]
 pub extern "C" fn panel_distance(p: u32, q: u32) -> f32
     ensures { λ r. ⌜ r ≡ distanceOf p q ⌝ }

@@ -1,6 +1,7 @@
 // The page reader.
 ghost use Rattle.page.specs.Page.{Reads};
 
+// The sides and the words of a page file.
 #[no_mangle]
 pub extern "C" fn panel_read_page(file: &[u8], picture: &mut [u32], w: &mut u32, h: &mut u32) -> u32
     ensures { λ r. ⌜ Reads (now (file .entry)) (now (picture .entry)) (now (picture .exit))

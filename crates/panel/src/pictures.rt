@@ -1,6 +1,7 @@
 // Whole pictures.
 ghost use Rattle.whole.specs.Calls.{Scales, Scales9};
 
+// A whole picture three times as large.
 #[no_mangle]
 pub extern "C" fn panel_scale(
     w: u32,
@@ -16,6 +17,7 @@ pub extern "C" fn panel_scale(
     whole::scale(w, h, picture, output, singles, bytes)
 }
 
+// A whole picture nine times as large.
 #[no_mangle]
 pub extern "C" fn panel_scale9x(
     w: u32,

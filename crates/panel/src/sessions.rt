@@ -4,6 +4,7 @@ ghost use Rattle.machine.specs.Calls.{Opens, Paints, Refreshes, Shows};
 ghost use Rattle.three.specs.Three.{screen3};
 ghost use Rattle.panel.specs.Header.{width, height};
 
+// A session opened on a picture; its header and its stale count.
 #[no_mangle]
 pub extern "C" fn panel_open(
     w: u32,
@@ -31,6 +32,7 @@ pub extern "C" fn panel_open(
     opened.refusal
 }
 
+// One word of the picture painted.
 #[no_mangle]
 pub extern "C" fn panel_paint(
     header: &[u32; 2],
@@ -62,6 +64,7 @@ pub extern "C" fn panel_paint(
     painted.refusal
 }
 
+// The first n stale blocks drawn.
 #[no_mangle]
 pub extern "C" fn panel_refresh(
     header: &[u32; 2],
@@ -92,6 +95,7 @@ pub extern "C" fn panel_refresh(
     refreshed.refusal
 }
 
+// The nine words of a block.
 #[no_mangle]
 pub extern "C" fn panel_show(
     header: &[u32; 2],

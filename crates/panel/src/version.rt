@@ -8,6 +8,7 @@ const MINOR: u32 = 1;
 
 const PATCH: u32 = 0;
 
+// The version as one number.
 #[no_mangle]
 pub extern "C" fn panel_version() -> u32
     ensures { λ r. ⌜ r ≡ version ⌝ }
