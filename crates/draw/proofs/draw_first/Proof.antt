@@ -20,7 +20,9 @@ returns c =
     let s = c .before .before .before .before .before .before .before .before .before .before .before in
     let a = s .args in
     let p = s .pre .0 in
-    swept-done screen3 lawful3 (a .w) (a .h) (a .n) (a .stale) (c .before .before .before .before .sweep .ensures) (p .for-output) (p .for-marks) (s .pre .1) (c .before .before .before .before .before .before .before .if1 .taken)
+    let few = c .before .before .before .before .before .before .before .if1 .taken in
+    swept-done screen3 lawful3 (a .w) (a .h) (a .n) (a .stale) (c .before .before .before .before .sweep .ensures)
+    (p .for-output) (p .for-marks) (s .pre .1) few
 
 draw-rows-requires : tie.Need-draw-rows-requires
 draw-rows-requires c κs = search needs

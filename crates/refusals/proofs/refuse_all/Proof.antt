@@ -14,13 +14,19 @@ returns : tie.Need-returns
 returns c = rw (← c .before .side-long .ensures, c .if1 .taken)
 
 mul-n : tie.Need-mul-n
-mul-n c = omega (arith, small (c .before .before .args .side) (c .before .before .args .w) (c .before .before .args .h) (c .before .before .pre .0) (sym (c .before .side-long .ensures) ∙ c .if1 .left))
+mul-n c =
+    let s = c .before .before in
+    let a = s .args in
+    omega (arith, small (a .side) (a .w) (a .h) (s .pre .0) (sym (c .before .side-long .ensures) ∙ c .if1 .left))
 
 returns-2 : tie.Need-returns-2
 returns-2 c = rw (← c .before .before .side-long .ensures, c .before .if1 .left, lt-ltb _ _ (c .if2 .taken))
 
 mul-if3 : tie.Need-mul-if3
-mul-if3 c = omega (arith, small-words (c .before .before .before .args .side) (c .before .before .before .args .words) (c .before .before .before .args .w) (c .before .before .before .args .h) (c .before .before .before .pre) (sym (c .before .before .side-long .ensures) ∙ c .before .if1 .left))
+mul-if3 c =
+    let s = c .before .before .before in
+    let a = s .args in
+    omega (arith, small-words (a .side) (a .words) (a .w) (a .h) (s .pre) (sym (c .before .before .side-long .ensures) ∙ c .before .if1 .left))
 
 returns-3 : tie.Need-returns-3
 returns-3 c = rw (← c .before .before .before .side-long .ensures, c .before .before .if1 .left, le-ltb _ _ (c .before .if2 .left), lt-ltb _ _ (c .if3 .taken))

@@ -14,7 +14,10 @@ returns : tie.Need-returns
 returns c = rw (← c .before .side-long .ensures, c .if1 .taken)
 
 mul-n : tie.Need-mul-n
-mul-n c = omega (arith, small (c .before .before .args .side) (c .before .before .args .w) (c .before .before .args .h) (c .before .before .pre) (sym (c .before .side-long .ensures) ∙ c .if1 .left))
+mul-n c =
+    let s = c .before .before in
+    let a = s .args in
+    omega (arith, small (a .side) (a .w) (a .h) (s .pre) (sym (c .before .side-long .ensures) ∙ c .if1 .left))
 
 returns-2 : tie.Need-returns-2
 returns-2 c = rw (← c .before .before .side-long .ensures, c .before .if1 .left, lt-ltb _ _ (c .if2 .taken))

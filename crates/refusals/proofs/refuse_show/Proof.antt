@@ -17,10 +17,16 @@ returns : tie.Need-returns
 returns c = rw (← c .before .side-long .ensures, c .if1 .taken)
 
 mul-n : tie.Need-mul-n
-mul-n c = omega (arith, small (c .before .before .before .args .side) (c .before .before .before .args .w) (c .before .before .before .args .h) (c .before .before .before .pre .0) (sym (c .before .side-long .ensures) ∙ c .if1 .left))
+mul-n c =
+    let s = c .before .before .before in
+    let a = s .args in
+    omega (arith, small (a .side) (a .w) (a .h) (s .pre .0) (sym (c .before .side-long .ensures) ∙ c .if1 .left))
 
 mul-if2 : tie.Need-mul-if2
-mul-if2 c = omega (arith, small-words (c .before .before .before .args .side) (c .before .before .before .args .words) (c .before .before .before .args .w) (c .before .before .before .args .h) (c .before .before .before .pre) (sym (c .before .side-long .ensures) ∙ c .if1 .left))
+mul-if2 c =
+    let s = c .before .before .before in
+    let a = s .args in
+    omega (arith, small-words (a .side) (a .words) (a .w) (a .h) (s .pre) (sym (c .before .side-long .ensures) ∙ c .if1 .left))
 
 returns-2 : tie.Need-returns-2
 returns-2 c = rw (← c .before .before .side-long .ensures, c .before .if1 .left, lt-ltb _ _ (c .if2 .taken))
@@ -34,9 +40,11 @@ MarkAt s = (s .args .by * s .args .w + s .args .bx < s .args .w * s .args .h) ×
 
 mark-in : (c : tie.Then4) → MarkAt (c .before .before .before .before .before .before)
 mark-in c =
-    let a = c .before .before .before .before .before .before .args in
+    let s = c .before .before .before .before .before .before in
+    let a = s .args in
     let i = inside-of (a .w) (a .h) (a .bx) (a .by) (c .if4 .taken) in
-    (block-lt (i .0) (i .1), small (a .side) (a .w) (a .h) (c .before .before .before .before .before .before .pre .0) (sym (c .before .before .before .before .side-long .ensures) ∙ c .before .before .before .if1 .left))
+    let l = c .before .before .before in
+    (block-lt (i .0) (i .1), small (a .side) (a .w) (a .h) (s .pre .0) (sym (l .before .side-long .ensures) ∙ l .if1 .left))
 
 mul-if5 : tie.Need-mul-if5
 mul-if5 c = omega (arith, mark-in c)

@@ -65,8 +65,9 @@ returns c =
     let a = s .args in
     let m = s .pre .0 in
     let e = c .before .before .before .before .before .before .before .before .before .before .corner .ensures in
-    let b = take 512 (drop 1232 (c .before .before .before .before .before .before .before .before .before .before .before .before .tags-tile .last .1 .1 .1 .1 .1 .1 .1 .0)) in
-    let t = tile-tags (a .w) (a .h) (a .x) (a .y) (a .k) (a .r) (a .picture .now) (replicate 1744 0) _ (c .before .before .before .before .before .before .before .before .before .before .before .before .tags-tile .ensures) m
+    let tagged = c .before .before .before .before .before .before .before .before .before .before .before .before .tags-tile in
+    let b = take 512 (drop 1232 (tagged .last .1 .1 .1 .1 .1 .1 .1 .0)) in
+    let t = tile-tags (a .w) (a .h) (a .x) (a .y) (a .k) (a .r) (a .picture .now) (replicate 1744 0) _ (tagged .ensures) m
     (length-replicate {A = ℕ} 1744 0) in
     record {
       output-now =
