@@ -4,3 +4,4 @@ pub mod Machine
 pub mod Calls
 pub mod Demand3
 pub mod Lent
+pub mod Examples

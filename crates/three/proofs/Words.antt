@@ -12,7 +12,8 @@ use Rattle.machine.specs.Lists.{table}
 use Rattle.machine.specs.Screen.{place}
 use Rattle.machine.specs.Machine.{putWords, blockAt}
 use Rattle.machine.proofs.Places.{spot-lt}
-use Rattle.three.specs.Three.{screen3, rowsAt}
+use Rattle.three.specs.Three.{screen3}
+use Rattle.three.specs.Rows.{rowsAt}
 
 -- word c of row r lies c words after the row's first, and that r output rows after the block's first
 spot : (w bx by r c b : ℕ) → b ≡ place screen3 w bx by 0 + r * (3 * w) → b + c ≡ (3 * by + r) * (3 * w) + (3 * bx + c)

@@ -1,8 +1,7 @@
 -- The three-times screen: blocks of 3 by 3 words as sections 1 to 6 draw them, and the box of section 7. Definitions only.
 use mathlib.Core.Bool.{Bool, _&&_}
-use mathlib.Core.List.{List, [], _∷_}
+use mathlib.Core.List.{List}
 use Prim.Native.Nat.{ℕ, _+_, _-_}
-use lib.ListN.{getD}
 use Rattle.picture.specs.Picture.{words}
 use Rattle.block.specs.Block.{blockOf}
 use Rattle.machine.specs.Screen.{Screen}
@@ -18,10 +17,3 @@ draw3 w h picture bx by = blockOf w h (words w picture) bx by
 
 abbrev pub screen3 : Screen
 screen3 = record { scale = 3; side = 2048; touches = box3; draw = draw3 }
-
--- nine words, in three rows of three that start at a, b and c
-abbrev pub rowsAt : ℕ → ℕ → ℕ → List ℕ → List ℕ
-rowsAt a b c output =
-    getD output a 0 ∷ getD output (a + 1) 0 ∷ getD output (a + 2) 0
-    ∷ getD output b 0 ∷ getD output (b + 1) 0 ∷ getD output (b + 2) 0
-    ∷ getD output c 0 ∷ getD output (c + 1) 0 ∷ getD output (c + 2) 0 ∷ []

@@ -6,7 +6,8 @@ ghost use lib.ListN.{length};
 ghost use Rattle.machine.specs.Lists.{stamp};
 ghost use Rattle.machine.specs.Screen.{place};
 ghost use Rattle.machine.specs.Machine.{names, blockAt};
-ghost use Rattle.three.specs.Three.{screen3, rowsAt};
+ghost use Rattle.three.specs.Three.{screen3};
+ghost use Rattle.three.specs.Rows.{rowsAt};
 
 // The columns to each side of a changed pixel, and the rows above and below it, whose blocks may depend on it.
 const SIDE: u32 = 6;
