@@ -75,7 +75,9 @@ impl Machine {
         let (column, row) = ((at % self.w) as isize, (at / self.w) as isize);
         for (i, stale) in self.stale.iter_mut().enumerate() {
             let (bx, by) = ((i % self.w) as isize, (i / self.w) as isize);
-            if (column - 6..=column + 6).contains(&bx) && (row - 5..=row + 6).contains(&by) {
+            let wide = (column - 6..=column + 6).contains(&bx) && (row - 2..=row + 3).contains(&by);
+            let high = (column - 3..=column + 3).contains(&bx) && (row - 5..=row + 6).contains(&by);
+            if wide || high {
                 *stale = true;
             }
         }

@@ -1,4 +1,4 @@
--- What a block depends on, for every size of picture: section 6's box, and the cross that it follows from. Assumes nothing.
+-- What a block depends on, for every size of picture: section 6's cross. Assumes nothing.
 use mathlib.Core.Path.{_≡_, refl}
 use mathlib.Core.List.{[], _∷_}
 use Prim.Native.Nat.{ℕ, zero, suc, _<_}
@@ -6,7 +6,7 @@ use native.Mathlib.Omega.{arith}
 use lib.IntN.{pos}
 use lib.ListN.{length, getD}
 use Rattle.picture.specs.Picture.{moved}
-use Rattle.picture.specs.Local.{Agree, narrower}
+use Rattle.picture.specs.Local.{Agree}
 use Rattle.picture.specs.Pipeline as Pipeline
 use Rattle.picture.specs.Pipeline.{Stages}
 use Rattle.metric.specs.declared.Metric.{Metric}
@@ -44,20 +44,14 @@ stages = record {
 }
 
 module _ (w h : ℕ) (f g : ℕ → ℕ → ℕ) (bx by : ℕ) (hx : bx < w) (hy : by < h) where
-  -- a block depends only on the pixels within six columns, three rows up and two down, and those
-  -- within three columns, six rows up and five down
+  -- section 6: block (bx, by) depends on no pixel but those of columns bx - 6 to bx + 6 and rows by - 3 to by + 2, and those of
+  -- columns bx - 3 to bx + 3 and rows by - 6 to by + 5
   pub cross : Agree w h bx by 6 6 3 2 f g → Agree w h bx by 3 3 6 5 f g → blockOf w h f bx by ≡ blockOf w h g bx by
   unfolding blockOf blockFrom tagWord pictureTags pictureJunctions tags junctions weights metrics Pipeline.blockWord Pipeline.tags
       Pipeline.junctions Pipeline.weights Pipeline.metrics stages tagOf
   cross e e′ =
       let q = Pipeline.cross stages (λ t k. offset-reaches (tagOf t k)) w h f g bx by hx hy e e′ in
       λ i. q 0 i ∷ q 1 i ∷ q 2 i ∷ q 3 i ∷ q 4 i ∷ q 5 i ∷ q 6 i ∷ q 7 i ∷ q 8 i ∷ []
-
-  -- section 6: block (bx, by) depends on no pixel outside columns bx - 6 to bx + 6 and rows by - 6 to by + 5
-  pub box : Agree w h bx by 6 6 6 5 f g → blockOf w h f bx by ≡ blockOf w h g bx by
-  box e =
-      cross (narrower (omega arith) (omega arith) (omega arith) (omega arith) e)
-      (narrower (omega arith) (omega arith) (omega arith) (omega arith) e)
 
 -- section 6: a block has nine words, and the middle word is the pixel
 pub block-length : (w h : ℕ) (f : ℕ → ℕ → ℕ) (x y : ℕ) → length (blockOf w h f x y) ≡ 9

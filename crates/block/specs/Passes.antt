@@ -161,16 +161,16 @@ module _ {w h x y k r : ℕ} (tile : Tile w h x y k r) where
       let j = reach y r h a b c (tile .down) l in
       record { columns = i .inside; lines = j .inside; left = i .before; right = i .after; above = j .before; below = j .after }
 
-  ring-held : (a n : ℕ) → (8 + a + a) * ((16 + a + a) * 4) ≤ n → Held (ring a) n
+  ring-held : (a n : ℕ) → (12 + a + a) * ((16 + a + a) * 4) ≤ n → Held (ring a) n
   ring-held a n l =
       let c : ring a .cols * 4 ≤ (16 + a + a) * 4 = omega arith in
-      let d : ring a .rows ≤ 8 + a + a = omega arith in
+      let d : ring a .rows ≤ 12 + a + a = omega arith in
       omega (arith, mul-le-mul d c)
 
-  tile-held : r * (k * 4) ≤ 16 * 8 * 4
+  tile-held : r * (k * 4) ≤ 16 * 12 * 4
   tile-held =
       let c : k * 4 ≤ 64 = omega arith in
-      let d : r ≤ 8 = omega arith in
+      let d : r ≤ 12 = omega arith in
       omega (arith, mul-le-mul d c)
 
   pub tile-rooms : (p s b : ℕ) → w * h ≤ p → tileSingles ≤ s → tileBytes ≤ b
@@ -190,7 +190,7 @@ module _ {w h x y k r : ℕ} (tile : Tile w h x y k r) where
       below = omega arith;
     };
     metrics-room = ring-held 5 tileMetrics (omega arith);
-    weights-room = omega (arith, ring-held 4 (24 * 16 * 4) (omega arith));
+    weights-room = omega (arith, ring-held 4 (24 * 20 * 4) (omega arith));
     junctions-room = ring-held 3 tileJunctions (omega arith);
     tags-room = omega (arith, tile-held);
   }

@@ -38,7 +38,7 @@ rect-long ow at k blocks l (suc n) room =
 
 -- ---- blocks that are the same one by one
 
-row-same : (ow at n : ℕ) (f g : ℕ → List ℕ) (l : List ℕ) → ((i : ℕ) → i < n → f i ≡ g i) → putRow ow at n f l ≡ putRow ow at n g l
+pub row-same : (ow at n : ℕ) (f g : ℕ → List ℕ) (l : List ℕ) → ((i : ℕ) → i < n → f i ≡ g i) → putRow ow at n f l ≡ putRow ow at n g l
 unfolding putRow
 row-same ow at zero f g l e = refl
 row-same ow at (suc n) f g l e =

@@ -39,7 +39,7 @@ pub record Tile (w h x y k r : ℕ) : Type 0 where
   pub some-columns : 0 < k
   pub few-columns : k ≤ 16
   pub some-rows : 0 < r
-  pub few-rows : r ≤ 8
+  pub few-rows : r ≤ 12
   pub wide : w ≤ 2048
   pub high : h ≤ 2048
 
@@ -50,21 +50,21 @@ tileOf x y k r = record { x0 = x; y0 = y; cols = k; rows = r }
 abbrev pub ringOf : ℕ → ℕ → ℕ → ℕ → ℕ → ℕ → ℕ → Grid
 ringOf w h x y k r a = record { x0 = x - a; y0 = y - a; cols = min (x + k + a) w - (x - a); rows = min (y + r + a) h - (y - a) }
 
--- how many singles the metrics of the pixels within 5 of a tile take, 26 by 18 of them at most and four singles each, and with the
--- weights of those within 4, 24 by 16 at most: 26 * 18 * 4, and 24 * 16 * 4 more
+-- how many singles the metrics of the pixels within 5 of a tile take, 26 by 22 of them at most and four singles each, and with the
+-- weights of those within 4, 24 by 20 at most: 26 * 22 * 4, and 24 * 20 * 4 more
 abbrev pub tileMetrics : ℕ
-tileMetrics = 1872
+tileMetrics = 2288
 
 abbrev pub tileSingles : ℕ
-tileSingles = 3408
+tileSingles = 4208
 
--- how many bytes the junctions of the pixels within 3 of a tile take, 22 by 14 at most, and with the tags of its own, 16 by 8 at most:
--- 22 * 14 * 4, and 16 * 8 * 4 more
+-- how many bytes the junctions of the pixels within 3 of a tile take, 22 by 18 at most, and with the tags of its own, 16 by 12 at most:
+-- 22 * 18 * 4, and 16 * 12 * 4 more
 abbrev pub tileJunctions : ℕ
-tileJunctions = 1232
+tileJunctions = 1584
 
 abbrev pub tileBytes : ℕ
-tileBytes = 1744
+tileBytes = 2352
 
 -- the junctions round a tile and after them its tags, written over the bytes b
 pub record TileTagged (w h : ℕ) (f : ℕ → ℕ → ℕ) (x y k r : ℕ) (b b′ : List ℕ) : Type 0 where

@@ -24,19 +24,19 @@ pub mod store;
 // The most columns and rows of a tile.
 pub const COLUMNS: u32 = 16;
 
-pub const ROWS: u32 = 8;
+pub const ROWS: u32 = 12;
 
-// Where a tile's weights start among its singles: the metrics of the pixels within 5 of it, 26 by 18 at most, stand before them.
-const CUT: usize = 26 * 18 * 4;
+// Where a tile's weights start among its singles: the metrics of the pixels within 5 of it, 26 by 22 at most, stand before them.
+const CUT: usize = 26 * 22 * 4;
 
-// A tile's singles: those metrics, and the weights of the pixels within 4 of it, 24 by 16 at most.
-const SINGLES: usize = CUT + 24 * 16 * 4;
+// A tile's singles: those metrics, and the weights of the pixels within 4 of it, 24 by 20 at most.
+const SINGLES: usize = CUT + 24 * 20 * 4;
 
-// Where a tile's tags start among its bytes: the junctions of the pixels within 3 of it, 22 by 14 at most, stand before them.
-pub const TAGS: usize = 22 * 14 * 4;
+// Where a tile's tags start among its bytes: the junctions of the pixels within 3 of it, 22 by 18 at most, stand before them.
+pub const TAGS: usize = 22 * 18 * 4;
 
-// A tile's bytes: those junctions, and the tags of its own pixels, 16 by 8 at most.
-pub const BYTES: usize = TAGS + 16 * 8 * 4;
+// A tile's bytes: those junctions, and the tags of its own pixels, 16 by 12 at most.
+pub const BYTES: usize = TAGS + 16 * 12 * 4;
 
 // The rectangle that reaches a pixels round the k by r pixels from (x, y) on, as far as the picture goes.
 fn ring(w: u32, h: u32, x: u32, y: u32, k: u32, r: u32, a: u32) -> Grid

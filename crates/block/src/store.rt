@@ -53,7 +53,7 @@ fn put_block(
 }
 
 // The k blocks from (x, y) on, side by side from `at` on. Their tags start at byte `from`.
-fn put_row(
+pub fn put_row(
     picture: &[u32],
     w: u32,
     h: u32,

@@ -1,21 +1,20 @@
--- One turn of each loop that draws: what is left to do, done from here, gives what the whole gives from the start. Assumes nothing.
+-- Blocks drawn one after the other, and the first n stale ones drawn part by part. Assumes nothing.
 use mathlib.Core.Path.{_≡_, refl, sym, ap, ap₂, _∙_}
 use mathlib.Core.List.{List, [], _++_}
 use Prim.Native.Nat.{ℕ, _+_, _-_, _*_, _≤_}
-use native.Mathlib.Nat.{sub-zero}
 use native.Mathlib.Omega.{arith}
-use lib.ListN.{length, take, length-append}
-use Rattle.machine.specs.Lists.{setAll}
+use lib.ListN.{length, take}
+use Rattle.machine.specs.Lists.{setAll, count}
 use Rattle.machine.specs.Screen.{Screen}
 use Rattle.machine.specs.Machine.{putAll}
-use Rattle.machine.proofs.Lists.{length-setAll, setAll-two}
+use Rattle.machine.proofs.Lists.{length-setAll, setAll-two, firstFrom-length}
 use Rattle.machine.proofs.Good.{length-putAll, putAll-two}
-use Rattle.marks.specs.Marks.{chosen}
-use Rattle.marks.proofs.Counts.{chosen-split, length-chosen}
-use Rattle.draw.specs.Steps.{Draws, DrawsAll}
+use Rattle.marks.specs.Marks.{staleIn, chosen}
+use Rattle.marks.proofs.Counts.{chosen-split, count-split, count-run-le, stale-after}
+use Rattle.draw.specs.Steps.{DrawsAll, Draws}
 
--- lists of blocks drawn one after the other
 module _ (S : Screen) (w h : ℕ) (picture : List ℕ) where
+  -- lists of blocks
   pub draws-none : (out m : List ℕ) → DrawsAll S w h [] picture out m out m
   draws-none out m = record { output-now = refl; marks-now = refl }
 
@@ -27,6 +26,14 @@ module _ (S : Screen) (w h : ℕ) (picture : List ℕ) where
     marks-now = l .marks-now ∙ ap (setAll cs 0) (k .marks-now) ∙ sym (setAll-two bs cs 0 m);
   }
 
+  -- the same blocks, and what equals what they leave
+  pub draws-same : {bs cs out m out′ m′ out″ m″ : List ℕ} → bs ≡ cs → out″ ≡ out′ → m″ ≡ m′ → DrawsAll S w h bs picture out m out′ m′
+      → DrawsAll S w h cs picture out m out″ m″
+  draws-same {bs} {cs} {out} {m} e eo em k = record {
+    output-now = eo ∙ k .output-now ∙ ap (λ (l : List ℕ). putAll S w h (take (w * h) picture) l out) e;
+    marks-now = em ∙ k .marks-now ∙ ap (λ (l : List ℕ). setAll l 0 m) e;
+  }
+
   module _ {bs out m out′ m′ : List ℕ} (k : DrawsAll S w h bs picture out m out′ m′) where
     pub draws-output-length : length out′ ≡ length out
     draws-output-length = ap length (k .output-now) ∙ length-putAll S w h (take (w * h) picture) bs out
@@ -34,62 +41,30 @@ module _ (S : Screen) (w h : ℕ) (picture : List ℕ) where
     pub draws-marks-length : length m′ ≡ length m
     draws-marks-length = ap length (k .marks-now) ∙ length-setAll bs 0 m
 
--- ---- drawing the first n stale blocks of lo to hi - 1: those before i have had their turn, and d of them were drawn
+  -- where none is to be drawn
+  pub first-none : {lo hi n c : ℕ} (out m : List ℕ) → c ≡ count (staleIn lo hi m) → chosen lo hi n m ≡ [] → Draws S w h lo hi n picture out m out m c
+  first-none out m e none = record { stale-before = e; draws = draws-same (sym none) refl refl (draws-none out m) }
 
-module _ (S : Screen) (w h lo hi n : ℕ) (picture out₀ m₀ : List ℕ) where
-  pub record Work (out m : List ℕ) (d i : ℕ) : Type 0 where
-    pub from : lo ≤ i
-    pub to : i ≤ hi
-    pub few : d ≤ i - lo
-    pub out-length : length out ≡ length out₀
-    pub marks-length : length m ≡ length m₀
-    pub out-left : putAll S w h (take (w * h) picture) (chosen i hi (n - d) m) out ≡ putAll S w h (take (w * h) picture) (chosen lo hi n m₀) out₀
-    pub marks-left : setAll (chosen i hi (n - d) m) 0 m ≡ setAll (chosen lo hi n m₀) 0 m₀
-    pub count-left : d + length (chosen i hi (n - d) m) ≡ length (chosen lo hi n m₀)
+  -- no more were stale than there are
+  pub first-few : {lo hi n c : ℕ} {out m out′ m′ : List ℕ} → hi ≤ length m → Draws S w h lo hi n picture out m out′ m′ c → c ≤ hi - lo
+  first-few {lo} {hi} {n} {c} {out} {m} l k = omega (arith, k .stale-before, count-run-le lo hi m l)
 
-  pub work-start : lo ≤ hi → Work out₀ m₀ 0 lo
-  work-start l =
-      let e : chosen lo hi (n - 0) m₀ ≡ chosen lo hi n m₀ = ap (λ (k : ℕ). chosen lo hi k m₀) (sub-zero n) in
-      record {
-        from = omega arith;
-        to = l;
-        few = omega arith;
-        out-length = refl;
-        marks-length = refl;
-        out-left = ap (λ (bs : List ℕ). putAll S w h (take (w * h) picture) bs out₀) e;
-        marks-left = ap (λ (bs : List ℕ). setAll bs 0 m₀) e;
-        count-left = omega (arith, ap length e);
-      }
-
-  -- the blocks i to j - 1 have their turn, and bs of them are drawn
-  pub work-run : {out m : List ℕ} {d i : ℕ} → Work out m d i → (j : ℕ) (bs out′ m′ : List ℕ) (d′ : ℕ) → i ≤ j → j ≤ hi → hi ≤ length m₀
-      → chosen i j (n - d) m ≡ bs → out′ ≡ putAll S w h (take (w * h) picture) bs out → m′ ≡ setAll bs 0 m → d′ ≡ d + length bs → Work out′ m′ d′ j
-  work-run {out} {m} {d} {i} k j bs out′ m′ d′ a b l eb eo em ed =
-      let q : n - d - length bs ≡ n - d′ = omega (arith, ed) in
-      let s : chosen i hi (n - d) m ≡ bs ++ chosen j hi (n - d′) m′ =
-      chosen-split i j hi (n - d) m a b (omega (arith, k .marks-length))
-      ∙ ap (λ (bs : List ℕ). bs ++ chosen j hi (n - d - length bs) (setAll bs 0 m)) eb
-      ∙ ap₂ (λ (c : ℕ) (l : List ℕ). bs ++ chosen j hi c l) q (sym em) in
-      let few-more : length bs ≤ j - i = omega (arith, ap length eb, length-chosen i j (n - d) m (omega (arith, k .marks-length))) in
-      record {
-        from = omega (arith, k .from);
-        to = b;
-        few = omega (arith, k .few, k .from);
-        out-length = ap length eo ∙ length-putAll S w h (take (w * h) picture) bs out ∙ k .out-length;
-        marks-length = ap length em ∙ length-setAll bs 0 m ∙ k .marks-length;
-        out-left =
-            ap (putAll S w h (take (w * h) picture) (chosen j hi (n - d′) m′)) eo
-            ∙ sym (putAll-two S w h (take (w * h) picture) bs (chosen j hi (n - d′) m′) out)
-            ∙ ap (λ (bs : List ℕ). putAll S w h (take (w * h) picture) bs out) (sym s) ∙ k .out-left;
-        marks-left =
-            ap (setAll (chosen j hi (n - d′) m′) 0) em ∙ sym (setAll-two bs (chosen j hi (n - d′) m′) 0 m)
-            ∙ ap (λ (bs : List ℕ). setAll bs 0 m) (sym s) ∙ k .marks-left;
-        count-left = omega (arith, k .count-left, ap length s, length-append bs (chosen j hi (n - d′) m′), ed);
-      }
-
-  pub work-done : {out m : List ℕ} {d i : ℕ} → Work out m d i → chosen i hi (n - d) m ≡ [] → Draws S w h lo hi n picture out₀ m₀ out m d
-  work-done {out} {m} k e = record {
-    drawn-now = omega (arith, k .count-left, ap length e);
-    output-now = ap (λ (bs : List ℕ). putAll S w h (take (w * h) picture) bs out) (sym e) ∙ k .out-left;
-    marks-now = ap (λ (bs : List ℕ). setAll bs 0 m) (sym e) ∙ k .marks-left;
+  -- the first n stale blocks: of those before i, and then of those from i on
+  pub first-more : {i j n s c t : ℕ} {out m out′ m′ out″ m″ : List ℕ} → i ≤ j → j ≤ length m → t ≡ s + c
+      → Draws S w h 0 i n picture out m out′ m′ s → Draws S w h i j (n - s) picture out′ m′ out″ m″ c → Draws S w h 0 j n picture out m out″ m″ t
+  first-more {i} {j} {n} {s} {c} {t} {out} {m} {out′} {m′} a l e k q = record {
+    stale-before =
+        e ∙ ap₂ _+_ (k .stale-before) (q .stale-before ∙ ap count same) ∙ sym (count-split 0 i j m (omega arith) a);
+    draws = draws-same split refl refl (draws-two (k .draws) (q .draws));
   }
+    where
+      same : staleIn i j m′ ≡ staleIn i j m
+      same = ap (staleIn i j) (k .draws .marks-now) ∙ stale-after 0 i j n m (omega arith) a l
+
+      left : n - length (chosen 0 i n m) ≡ n - s
+      left = omega (arith, firstFrom-length 0 n (staleIn 0 i m), k .stale-before)
+
+      split : (chosen 0 i n m ++ chosen i j (n - s) m′) ≡ chosen 0 j n m
+      split =
+          ap₂ (λ (d : ℕ) (l : List ℕ). chosen 0 i n m ++ chosen i j d l) (sym left) (k .draws .marks-now)
+          ∙ sym (chosen-split 0 i j n m (omega arith) a l)

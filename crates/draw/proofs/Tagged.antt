@@ -1,37 +1,53 @@
--- The tags of a tile, as `tags_tile` leaves them in its bytes, and room for the tile's blocks in the output. Assumes nothing.
+-- The tags of a tile, as `tags_tile` leaves them in its bytes, row by row and from a later pixel on, and room for blocks of a row in the
+-- output. Assumes nothing.
 use mathlib.Core.Path.{_≡_, ap, _∙_}
 use mathlib.Core.List.{List}
-use Prim.Native.Nat.{ℕ, _+_, _*_, _≤_, _<_}
-use native.Mathlib.Nat.{mul-le-mul, mul-le-mul-right, mul-assoc}
+use Prim.Native.Nat.{ℕ, _+_, _-_, _*_, _≤_, _<_}
+use native.Mathlib.Nat.{mul-le-mul, mul-le-mul-right, mul-assoc, add-mul}
 use native.Mathlib.Omega.{arith}
 use lib.ListN.{length, take, drop, length-drop}
 use lib.Seq.{take-all}
 use Rattle.picture.specs.Picture.{words}
 use Rattle.grid.specs.Grid.{tagsAt}
 use Rattle.block.specs.Block.{pictureTags}
-use Rattle.block.specs.Store.{RectRoom}
+use Rattle.block.specs.Store.{RowRoom}
 use Rattle.block.specs.Window.{Tile, TileTagged, tileJunctions, tileBytes}
 use Rattle.machine.specs.Screen.{place}
 use Rattle.three.specs.Three.{screen3}
-
--- four bytes for each pixel, row after row
-pub record TileTags (w h : ℕ) (picture : List ℕ) (x y k r : ℕ) (tags : List ℕ) : Type 0 where
-  pub long : r * (k * 4) ≤ length tags
-  pub each : (i j : ℕ) → i < k → j < r → tagsAt tags (j * (k * 4) + i * 4) ≡ pictureTags w h (words w picture) (x + i) (y + j)
+use Rattle.draw.specs.Steps.{RowTags, TileTags}
 
 pub tile-tags : (w h x y k r : ℕ) (p b b′ : List ℕ) → TileTagged w h (words w p) x y k r b b′ → Tile w h x y k r → length b ≡ tileBytes
-    → TileTags w h p x y k r (take 512 (drop tileJunctions b′))
-tile-tags w h x y k r p b b′ t m e =
-    let n : length (drop tileJunctions b′) ≡ 512 = omega (arith, length-drop tileJunctions b′, t .long) in
-    let s : take 512 (drop tileJunctions b′) ≡ drop tileJunctions b′ = take-all 512 (drop tileJunctions b′) (omega (arith, n)) in
+    → TileTags w h p x y k r (take 768 (drop tileJunctions b′))
+tile-tags w h x y k r p b b′ t m e j hj =
+    let n : length (drop tileJunctions b′) ≡ 768 = omega (arith, length-drop tileJunctions b′, t .long) in
+    let s : take 768 (drop tileJunctions b′) ≡ drop tileJunctions b′ = take-all 768 (drop tileJunctions b′) (omega (arith, n)) in
+    let few : j + 1 ≤ 12 = omega (arith, m .few-rows) in
+    let wide : k * 4 ≤ 16 * 4 = omega (arith, m .few-columns) in
+    let rows : (j + 1) * (k * 4) ≤ 12 * (16 * 4) = mul-le-mul few wide in
     record {
-      long = omega (arith, ap length s, n, mul-le-mul (m .few-rows) (m .few-columns), mul-assoc r k 4);
-      each = λ i j c d.
+      along = m .along;
+      down = omega (arith, m .down);
+      long = omega (arith, ap length s, n, rows, add-mul j 1 (k * 4));
+      each = λ i c.
           let q : j * (k * 4) + i * 4 ≡ (j * k + i) * 4 = omega (arith, mul-assoc j k 4) in
-          ap (λ (l : List ℕ). tagsAt l (j * (k * 4) + i * 4)) s ∙ ap (tagsAt (drop tileJunctions b′)) q ∙ t .each i j c d;
+          ap (λ (l : List ℕ). tagsAt l (j * (k * 4) + i * 4)) s ∙ ap (tagsAt (drop tileJunctions b′)) q ∙ t .each i j c hj;
     }
 
-pub tile-room : (w h x y k r o : ℕ) → Tile w h x y k r → 9 * (w * h) ≤ o → RectRoom w h x y k r (3 * w) (place screen3 w x y 0) o
-tile-room w h x y k r o m n =
-    let a : (y + r) * (9 * w) ≤ h * (9 * w) = mul-le-mul-right (9 * w) (m .down) in
-    record { along = m .along; down = m .down; words = omega (arith, a, m .along, n); wide = omega (arith, m .wide) }
+-- n of a row's tags, from its pixel i on
+pub tags-from : (w h x y k from i n : ℕ) (p tags : List ℕ) → i + n ≤ k → RowTags w h p x y k from tags
+    → RowTags w h p (x + i) y n (from + 4 * i) tags
+tags-from w h x y k from i n p tags l t = record {
+  along = omega (arith, t .along);
+  down = t .down;
+  long = omega (arith, t .long);
+  each = λ j c.
+      let e : from + 4 * i + j * 4 ≡ from + (i + j) * 4 = omega arith in
+      let q : x + (i + j) ≡ x + i + j = omega arith in
+      ap (tagsAt tags) e ∙ t .each (i + j) (omega arith) ∙ ap (λ (c : ℕ). pictureTags w h (words w p) c y) q;
+}
+
+pub run-room : (w h x y n from t o : ℕ) → x + n ≤ w → y < h → from + n * 4 ≤ t → 9 * (w * h) ≤ o
+    → RowRoom w x n from t (3 * w) (place screen3 w x y 0) o
+run-room w h x y n from t o along down tags long =
+    let a : (y + 1) * (9 * w) ≤ h * (9 * w) = mul-le-mul-right (9 * w) (omega arith) in
+    record { along = along; tags = tags; words = omega (arith, a, along, long) }

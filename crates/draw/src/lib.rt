@@ -1,91 +1,86 @@
-// The first n stale blocks drawn: where there are more, in row order, and otherwise all of them in whatever order. What is drawn is said
-// over a screen; how a tile is drawn (tile.rt) is the three-times screen's.
-use block::COLUMNS;
+// The first n stale blocks drawn, in row order. Rows with nothing stale are passed over; from a row with a stale block on, as many rows
+// as a tile has are drawn as a band. What is drawn is said over a screen; how a block is drawn (tile.rt) is the three-times screen's.
+use block::ROWS;
 use marks::count_stale;
-use marks::stale_run;
+use marks::stale_end;
+use part::draw_part;
 use picture::place::least;
-use sweep::sweep;
-use tile::draw_tile;
-ghost use mathlib.Core.Path.{_≡_};
-ghost use Prim.Native.Nat.{_+_, _*_, _<_};
+ghost use Prim.Native.Nat.{_+_, _*_, _<_, _≤_};
 ghost use lib.ListN.{length};
-ghost use Rattle.machine.specs.Lists.{count};
 ghost use Rattle.machine.specs.Lent.{Lent};
-ghost use Rattle.marks.specs.Marks.{staleIn};
 ghost use Rattle.three.specs.Three.{screen3};
 ghost use Rattle.draw.specs.Steps.{Draws};
 
-mod sweep;
+mod part;
 mod tile;
 
-// The first n stale blocks of row y drawn, and no longer stale. Answers their number.
-fn draw_row(
+// The first n stale blocks of rows y to bottom - 1 drawn, and no longer stale. Answers how many were stale.
+fn draw_band(
     picture: &[u32],
     output: &mut [u32],
     marks: &mut [u8],
     w: u32,
     h: u32,
     y: u32,
+    bottom: u32,
     n: u32,
 ) -> u32
-    requires { ⌜ (y < h) × Lent screen3 w h (length (now picture)) (length (now output)) (length (now marks)) ⌝ }
-    ensures { λ r. ⌜ Draws screen3 w h (y * w) (y * w + w) n (now (picture .entry)) (now (output .entry)) (now (marks .entry))
+    requires { ⌜ ((y < bottom) × ((bottom ≤ h) × (bottom ≤ y + 12)))
+        × Lent screen3 w h (length (now picture)) (length (now output)) (length (now marks)) ⌝ }
+    ensures { λ r. ⌜ Draws screen3 w h (y * w) (bottom * w) n (now (picture .entry)) (now (output .entry)) (now (marks .entry))
         (now (output .exit)) (now (marks .exit)) r ⌝ }
 {
-    let start = (y as usize) * (w as usize);
-    let mut d: u32 = 0;
-    let mut x: u32 = 0;
-    while x < w && d < n {
-        let i = start + (x as usize);
-        if marks[i] == 0 {
-            x += 1;
-        } else {
-            let k = stale_run(marks, i, least(COLUMNS, least(w - x, n - d)));
-            draw_tile(picture, output, marks, w, h, x, y, k, 1);
-            d += k;
-            x += k;
-        }
+    let width = w as usize;
+    let lo = (y as usize) * width;
+    let hi = (bottom as usize) * width;
+    let stale = count_stale(marks, lo, hi);
+    if stale <= n {
+        draw_part(picture, output, marks, w, h, w, y, bottom);
+        return stale;
     }
-    d
+    // The n-th of them ends the slice: the rows above it are drawn whole, and its own row as far as that.
+    let end = stale_end(marks, lo, hi, n);
+    let row = (end / width) as u32;
+    draw_part(picture, output, marks, w, h, w, y, row);
+    draw_part(
+        picture,
+        output,
+        marks,
+        w,
+        h,
+        (end % width) as u32,
+        row,
+        row + 1,
+    );
+    stale
 }
 
-// The first n stale blocks drawn row by row, and no longer stale. Answers their number. A row with nothing stale, as most
-// are, is passed over as a whole.
-fn draw_rows(picture: &[u32], output: &mut [u32], marks: &mut [u8], w: u32, h: u32, n: u32) -> u32
-    requires { ⌜ Lent screen3 w h (length (now picture)) (length (now output)) (length (now marks)) ⌝ }
-    ensures { λ r. ⌜ Draws screen3 w h 0 (w * h) n (now (picture .entry)) (now (output .entry)) (now (marks .entry))
-        (now (output .exit)) (now (marks .exit)) r ⌝ }
-{
-    let mut d: u32 = 0;
-    let mut y: u32 = 0;
-    while y < h && d < n {
-        let start = (y as usize) * (w as usize);
-        if count_stale(marks, start, start + (w as usize)) != 0 {
-            d += draw_row(picture, output, marks, w, h, y, n - d);
-        }
-        y += 1;
-    }
-    d
-}
-
-// The first n stale blocks drawn, and no longer stale; `stale` are stale before. Answers their number.
+// The first n stale blocks drawn, and no longer stale. Answers how many were stale: each mark is counted once, on the way down or, below
+// the last block drawn, in one go.
 pub fn draw_first(
     picture: &[u32],
     output: &mut [u32],
     marks: &mut [u8],
     w: u32,
     h: u32,
-    stale: u32,
     n: u32,
 ) -> u32
-    requires { ⌜ (Lent screen3 w h (length (now picture)) (length (now output)) (length (now marks)))
-        × (stale ≡ count (staleIn 0 (w * h) (now marks))) ⌝ }
+    requires { ⌜ Lent screen3 w h (length (now picture)) (length (now output)) (length (now marks)) ⌝ }
     ensures { λ r. ⌜ Draws screen3 w h 0 (w * h) n (now (picture .entry)) (now (output .entry)) (now (marks .entry))
         (now (output .exit)) (now (marks .exit)) r ⌝ }
 {
-    if stale <= n {
-        sweep(picture, output, marks, w, h);
-        return stale;
+    let width = w as usize;
+    let mut stale: u32 = 0;
+    let mut y: u32 = 0;
+    while y < h && stale < n {
+        let start = (y as usize) * width;
+        if count_stale(marks, start, start + width) == 0 {
+            y += 1;
+        } else {
+            let bottom = least(y + ROWS, h);
+            stale += draw_band(picture, output, marks, w, h, y, bottom, n - stale);
+            y = bottom;
+        }
     }
-    draw_rows(picture, output, marks, w, h, n)
+    stale + count_stale(marks, (y as usize) * width, (h as usize) * width)
 }

@@ -1,8 +1,8 @@
--- Counts of marks, the first stale blocks of a run, and runs and rows of stale blocks, one turn of a loop after the other. Assumes nothing.
+-- Counts of marks, the first stale blocks of a run, and runs of stale blocks, one turn of a loop after the other. Assumes nothing.
 use mathlib.Core.Path.{_≡_, refl, sym, ap, ap₂, _∙_}
 use mathlib.Core.Bool.{Bool, true, false}
 use mathlib.Core.List.{List, [], _∷_, _++_, map}
-use Prim.Native.Nat.{ℕ, suc, _+_, _-_, _*_, _≤_, _<_, min}
+use Prim.Native.Nat.{ℕ, suc, _+_, _-_, _≤_, _<_, min}
 use native.Mathlib.Numerals.{add-one}
 use native.Mathlib.Omega.{arith}
 use lib.Dec.{eqb}
@@ -13,9 +13,9 @@ use Rattle.picture.specs.Fill.{getD-any}
 use Rattle.machine.specs.Lists.{setAll, count, firstFrom}
 use Rattle.machine.specs.Calls.{isStale}
 use Rattle.machine.proofs.Lists.{Below, firstFrom-below, firstFrom-append, firstFrom-length, firstFrom-min, first-none, first-false, first-replicate}
-use Rattle.machine.proofs.Lists.{count-le, all-true, count-append, count-replicate, slice-split, map-append, none-true, setAll-two, table-snoc}
+use Rattle.machine.proofs.Lists.{count-le, count-append, count-replicate, slice-split, map-append, none-true, setAll-two, table-snoc}
 use Rattle.machine.proofs.Ends.{is-stale, not-stale}
-use Rattle.marks.specs.Marks.{staleIn, chosen, blocksFrom, tileBlocks}
+use Rattle.marks.specs.Marks.{staleIn, chosen, blocksFrom}
 
 -- ---- a count
 
@@ -46,6 +46,10 @@ length-stale i j m h = length-map (slice i j m) isStale ∙ length-slice i j m h
 pub count-run-le : (i j : ℕ) (m : List ℕ) → j ≤ length m → count (staleIn i j m) ≤ j - i
 count-run-le i j m h = omega (arith, count-le (staleIn i j m), length-stale i j m h)
 
+-- where fewer are stale before i than in the whole run, i is not its end
+pub run-left : (lo i hi : ℕ) (m : List ℕ) → lo ≤ i → i ≤ hi → hi ≤ length m → count (staleIn lo i m) < count (staleIn lo hi m) → i < hi
+run-left lo i hi m a b h l = omega (arith, count-split lo i hi m a b, count-run-le i hi m h)
+
 -- ---- the first n stale blocks of a run, in two runs
 
 slice-set : (j k b : ℕ) (v : ℕ) (m : List ℕ) → b < j → j ≤ k → slice j k (set m b v) ≡ slice j k m
@@ -54,6 +58,12 @@ slice-set j k b v m l h = ap (drop j) (take-set-lt k m b v (omega arith)) ∙ dr
 slice-setAll : (j k : ℕ) (bs m : List ℕ) → Below j bs → j ≤ k → slice j k (setAll bs 0 m) ≡ slice j k m
 slice-setAll j k [] m l h = refl
 slice-setAll j k (b ∷ bs) m l h = slice-setAll j k bs (set m b 0) (l .1) h ∙ slice-set j k b 0 m (l .0) h
+
+-- the marks from j on, once blocks before j are cleared
+pub stale-after : (i j k n : ℕ) (m : List ℕ) → i ≤ j → j ≤ k → k ≤ length m → staleIn j k (setAll (chosen i j n m) 0 m) ≡ staleIn j k m
+stale-after i j k n m a b l =
+    let low : Below j (chosen i j n m) = firstFrom-below i n (staleIn i j m) j (omega (arith, length-stale i j m (omega arith))) in
+    ap (map isStale) (slice-setAll j k (chosen i j n m) m low b)
 
 pub length-chosen : (i j n : ℕ) (m : List ℕ) → j ≤ length m → length (chosen i j n m) ≤ j - i
 length-chosen i j n m h = omega (arith, firstFrom-length i n (staleIn i j m), count-run-le i j m h)
@@ -79,18 +89,6 @@ run-more i k m e l t =
     stale-split i (i + k) (i + (k + 1)) m (omega arith) (omega arith)
     ∙ ap₂ {C = List Bool} _++_ e (stale-one (i + k) (i + (k + 1)) m q l ∙ ap {B = List Bool} (λ t. t ∷ []) t)
     ∙ replicate-append-replicate k 1 true
-
--- a run that has as many stale blocks as blocks, and the first row of a tile
-pub run-counted : (i k : ℕ) (m : List ℕ) → i + k ≤ length m → count (staleIn i (i + k) m) ≡ k → staleIn i (i + k) m ≡ replicate k true
-run-counted i k m l e =
-    let n : length (staleIn i (i + k) m) ≡ k = omega (arith, length-stale i (i + k) m l) in
-    all-true (staleIn i (i + k) m) (e ∙ sym n) ∙ ap (λ (n : ℕ). replicate n true) n
-
-pub row-first : (w x y k : ℕ) (m : List ℕ) → staleIn (y * w + x) (y * w + x + k) m ≡ replicate k true
-    → (j : ℕ) → j < 1 → staleIn ((y + j) * w + x) ((y + j) * w + x + k) m ≡ replicate k true
-row-first w x y k m e j l =
-    let q : y + j ≡ y = omega arith in
-    ap (λ (n : ℕ). staleIn (n * w + x) (n * w + x + k) m) q ∙ e
 
 -- all of them are chosen, where as many are asked for
 pub run-chosen : (i j k n : ℕ) (m : List ℕ) → j ≡ i + k → staleIn i (i + k) m ≡ replicate k true → k ≤ n → chosen i j n m ≡ blocksFrom i k
@@ -124,18 +122,12 @@ none-stale i j n m e = empty (chosen i j n m) (omega (arith, firstFrom-length i 
 pub chosen-le : (i j n : ℕ) (m : List ℕ) → length (chosen i j n m) ≤ n
 chosen-le i j n m = omega (arith, firstFrom-length i n (staleIn i j m))
 
--- ---- blocks cleared: one more of a run, and one more row of a tile
+-- ---- blocks cleared: one more of a run
 
 pub clear-more : (b i : ℕ) (m₀ m : List ℕ) → m ≡ setAll (blocksFrom b i) 0 m₀ → set m (b + i) 0 ≡ setAll (blocksFrom b (i + 1)) 0 m₀
 clear-more b i m₀ m e =
     ap (λ (l : List ℕ). set l (b + i) 0) e ∙ sym (setAll-two (blocksFrom b i) ((b + i) ∷ []) 0 m₀)
     ∙ ap (λ (bs : List ℕ). setAll bs 0 m₀) (sym (table-snoc i (λ j. b + j)) ∙ ap (blocksFrom b) (sym (add-one i)))
-
-pub clear-row : (w x y k j : ℕ) (m₀ m m′ : List ℕ) → m ≡ setAll (tileBlocks w x y k j) 0 m₀ → m′ ≡ setAll (blocksFrom ((y + j) * w + x) k) 0 m
-    → m′ ≡ setAll (tileBlocks w x y k (j + 1)) 0 m₀
-clear-row w x y k j m₀ m m′ e e′ =
-    e′ ∙ ap (setAll (blocksFrom ((y + j) * w + x) k) 0) e ∙ sym (setAll-two (tileBlocks w x y k j) (blocksFrom ((y + j) * w + x) k) 0 m₀)
-    ∙ ap (λ (r : ℕ). setAll (tileBlocks w x y k r) 0 m₀) (sym (add-one j))
 
 -- ---- single marks
 

@@ -1,10 +1,11 @@
--- The marks: which of some blocks are stale, the blocks of a run and of a tile, and the box of blocks round a position. Definitions only.
+-- The marks: which of some blocks are stale, the blocks of a run, runs and parts of the picture without a stale block, and the box of
+-- blocks round a position. Definitions only.
 use mathlib.Core.Path.{_≡_}
 use mathlib.Core.Bool.{Bool, true, _&&_}
-use mathlib.Core.List.{List, [], _++_, map}
-use Prim.Native.Nat.{ℕ, zero, suc, _+_, _-_, _*_, _/_, _%_, _≤_, _<_}
+use mathlib.Core.List.{List, map}
+use Prim.Native.Nat.{ℕ, _+_, _-_, _*_, _/_, _%_, _≤_, _<_}
 use lib.Dec.{leb, ltb}
-use lib.ListN.{length, replicate}
+use lib.ListN.{length, getD, replicate}
 use lib.Seq.{slice}
 use Rattle.machine.specs.Lists.{table, firstFrom}
 use Rattle.machine.specs.Calls.{isStale}
@@ -25,32 +26,47 @@ chosen lo hi n marks = firstFrom lo n (staleIn lo hi marks)
 abbrev pub blocksFrom : ℕ → ℕ → List ℕ
 blocksFrom b k = table k (λ j. b + j)
 
--- the blocks of a tile of k columns and r rows from (x, y) on, row after row
-abbrev pub tileBlocks : ℕ → ℕ → ℕ → ℕ → ℕ → List ℕ
-tileBlocks w x y k zero = []
-tileBlocks w x y k (suc r) = tileBlocks w x y k r ++ blocksFrom ((y + r) * w + x) k
-
 -- r marks from i on are stale, at least one and at most `most`
 pub record StaleRun (i most : ℕ) (marks : List ℕ) (r : ℕ) : Type 0 where
   pub some : 0 < r
   pub few : r ≤ most
   pub all-stale : staleIn i (i + r) marks ≡ replicate r true
 
--- k stale blocks from (x, y) on, within a picture of at most 2,048 a side
-pub record TileStart (w h x y k : ℕ) (marks : List ℕ) : Type 0 where
-  pub wide : w ≤ 2048
-  pub high : h ≤ 2048
-  pub along : x + k ≤ w
-  pub line : y < h
-  pub for-marks : w * h ≤ length marks
-  pub row-stale : staleIn (y * w + x) (y * w + x + k) marks ≡ replicate k true
+-- none of the blocks lo to hi - 1 is stale
+abbrev pub ClearRun : ℕ → ℕ → List ℕ → Type 0
+ClearRun lo hi marks = (b : ℕ) → lo ≤ b → b < hi → getD marks b 0 ≡ 0
 
--- the blocks of a tile of k columns and r rows from (x, y) on are stale; it has at least one row and at most `most`, within the picture
-pub record StaleTile (w h x y k most : ℕ) (marks : List ℕ) (r : ℕ) : Type 0 where
-  pub some : 0 < r
-  pub few : r ≤ most
-  pub down : y + r ≤ h
-  pub all-stale : (j : ℕ) → j < r → staleIn ((y + j) * w + x) ((y + j) * w + x + k) marks ≡ replicate k true
+-- r is from lo to hi, and no block from lo to r - 1 is stale
+pub record ClearUpTo (lo hi : ℕ) (marks : List ℕ) (r : ℕ) : Type 0 where
+  pub from : lo ≤ r
+  pub to : r ≤ hi
+  pub clear : ClearRun lo r marks
+
+-- r is from lo to hi, and no block from r to hi - 1 is stale
+pub record ClearFrom (lo hi : ℕ) (marks : List ℕ) (r : ℕ) : Type 0 where
+  pub from : lo ≤ r
+  pub to : r ≤ hi
+  pub clear : ClearRun r hi marks
+
+-- block b lies in columns x to x′ - 1 and rows y to y′ - 1 of a picture of w columns
+pub record Inside (w x x′ y y′ b : ℕ) : Type 0 where
+  pub left : x ≤ b % w
+  pub right : b % w < x′
+  pub above : y ≤ b / w
+  pub below : b / w < y′
+
+-- no block there is stale
+abbrev pub Clear : ℕ → ℕ → ℕ → ℕ → ℕ → List ℕ → Type 0
+Clear w x x′ y y′ marks = (b : ℕ) → Inside w x x′ y y′ b → getD marks b 0 ≡ 0
+
+-- columns x to x′ - 1 and rows y to y′ - 1, of a picture of at most 2,048 a side, lie within the marks
+pub record Part (w x x′ y y′ : ℕ) (marks : List ℕ) : Type 0 where
+  pub columns : x ≤ x′
+  pub along : x′ ≤ w
+  pub wide : w ≤ 2048
+  pub rows : y ≤ y′
+  pub high : y′ ≤ 2048
+  pub for-marks : y′ * w ≤ length marks
 
 -- x is from lo to hi
 abbrev pub between : ℕ → ℕ → ℕ → Bool

@@ -4,6 +4,7 @@
 use draw::draw_first;
 use marks::count_stale;
 use marks::mark_run;
+use picture::place::least;
 use refusals::refuse_all;
 use refusals::refuse_paint;
 use refusals::refuse_show;
@@ -179,8 +180,8 @@ impl Session {
                 left: 0,
             };
         }
-        let stale = count_stale(marks, 0, (w as usize) * (h as usize));
-        let drawn = draw_first(picture, output, marks, w, h, stale, n);
+        let stale = draw_first(picture, output, marks, w, h, n);
+        let drawn = least(stale, n);
         Refreshed {
             refusal: 0,
             drawn,

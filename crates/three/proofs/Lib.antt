@@ -1,3 +1,4 @@
 pub mod Three
+pub mod Cross
 pub mod Words
-pub mod Tiles
+pub mod Runs

@@ -1,6 +1,6 @@
 -- The three-times screen is lawful, by the locality of section 6, and draws from no word past the picture. Assumes nothing.
-use mathlib.Core.Path.{_≡_, sym, ap₂}
-use mathlib.Core.Bool.{true, _&&_}
+use mathlib.Core.Path.{_≡_, sym, ap, ap₂, _∙_}
+use mathlib.Core.Bool.{Bool, true, _&&_, _||_, or-true}
 use mathlib.Core.List.{List}
 use Prim.Native.Nat.{ℕ, _+_, _-_, _*_, _≤_, _<_}
 use native.Mathlib.Omega.{arith}
@@ -9,30 +9,42 @@ use lib.Seq.{getD-take}
 use borrow.Author.Tests.{le-leb}
 use Rattle.picture.specs.Picture.{words}
 use Rattle.picture.specs.Local.{In}
-use Rattle.block.specs.Locality.{box, block-length}
+use Rattle.block.specs.Locality.{cross, block-length}
 use Rattle.machine.specs.Screen.{Lawful}
 use Rattle.marks.specs.Marks.{between}
-use Rattle.three.specs.Three.{box3, draw3, screen3}
+use Rattle.three.specs.Three.{cross3, draw3, screen3}
 use Rattle.machine.proofs.Places.{block-lt}
 
 between-in : (lo hi x : ℕ) → lo ≤ x → x ≤ hi → between lo hi x ≡ true
 between-in lo hi x a b = ap₂ _&&_ (le-leb lo x a) (le-leb x hi b)
 
+-- a pixel at most s columns beside a block, d rows above and u below it: the block lies in that arm round the pixel
+arm : (w h s u d x y bx by : ℕ) → In w h bx by s s d u x y → (between (x - s) (x + s) bx && between (y - u) (y + d) by) ≡ true
+arm w h s u d x y bx by i =
+    ap₂ _&&_ (between-in (x - s) (x + s) bx (omega (arith, i .right)) (omega (arith, i .left)))
+    (between-in (y - u) (y + d) by (omega (arith, i .below)) (omega (arith, i .above)))
+
 -- a paint names the blocks that may depend on its pixel
-touched : (w h x y bx by : ℕ) → In w h bx by 6 6 6 5 x y → box3 x y bx by ≡ true
-touched w h x y bx by i =
-    ap₂ _&&_ (between-in (x - 6) (x + 6) bx (omega (arith, i .right)) (omega (arith, i .left)))
-    (between-in (y - 5) (y + 6) by (omega (arith, i .below)) (omega (arith, i .above)))
+wide : (w h x y bx by : ℕ) → In w h bx by 6 6 3 2 x y → cross3 x y bx by ≡ true
+wide w h x y bx by i = ap (λ (t : Bool). t || (between (x - 3) (x + 3) bx && between (y - 5) (y + 6) by)) (arm w h 6 2 3 x y bx by i)
+
+high : (w h x y bx by : ℕ) → In w h bx by 3 3 6 5 x y → cross3 x y bx by ≡ true
+high w h x y bx by i =
+    let t : Bool = between (x - 6) (x + 6) bx && between (y - 2) (y + 3) by in
+    ap (λ (u : Bool). t || u) (arm w h 3 5 6 x y bx by i) ∙ or-true t
 
 pub lawful3 : Lawful screen3
 lawful3 = record {
   scaled = omega arith;
   draw-length = λ w h p bx by. block-length w h (words w p) bx by;
   local = λ w h p q bx by lp lq hx hy agree.
-      box w h (words w p) (words w q) bx by hx hy (λ x y i. agree x y (i .on-x) (i .on-y) (touched w h x y bx by i));
+      cross w h (words w p) (words w q) bx by hx hy (λ x y i. agree x y (i .on-x) (i .on-y) (wide w h x y bx by i))
+      (λ x y i. agree x y (i .on-x) (i .on-y) (high w h x y bx by i));
 }
 
 pub drawn-from : (w h : ℕ) (p : List ℕ) (bx by : ℕ) → bx < w → by < h → draw3 w h p bx by ≡ draw3 w h (take (w * h) p) bx by
 drawn-from w h p bx by hx hy =
-    box w h (words w p) (words w (take (w * h) p)) bx by hx hy
-    (λ x y i. sym (getD-take (w * h) p (y * w + x) 0 (block-lt (i .on-x) (i .on-y))))
+    cross w h (words w p) (words w (take (w * h) p)) bx by hx hy (λ x y i. front x y (i .on-x) (i .on-y)) (λ x y i. front x y (i .on-x) (i .on-y))
+  where
+    front : (x y : ℕ) → x < w → y < h → words w p x y ≡ words w (take (w * h) p) x y
+    front x y l m = sym (getD-take (w * h) p (y * w + x) 0 (block-lt l m))

@@ -1,16 +1,8 @@
 -- `draw::tile::draw_tile` meets its contract. Assumes nothing.
-use mathlib.Core.Path.{_∙_, ap}
-use Prim.Native.Nat.{ℕ, _+_, _*_}
-use native.Mathlib.Nat.{mul-le-mul-right}
-use native.Mathlib.Omega.{arith}
+use Prim.Native.Nat.{ℕ}
 use borrow.Author.Needs.{needs}
-use lib.ListN.{length, take, drop, replicate, length-replicate}
-use Rattle.picture.specs.Picture.{words}
-use Rattle.grid.specs.Grid.{tagsAt}
-use Rattle.block.specs.Block.{blockFrom}
-use Rattle.block.specs.Store.{putRect}
-use Rattle.three.proofs.Tiles.{tile-drawn}
-use Rattle.draw.proofs.Tagged.{tile-tags, tile-room}
+use lib.ListN.{replicate, length-replicate}
+use Rattle.draw.proofs.Tagged.{tile-tags}
 use Rattle.draw.proofs.tile.draw_tile.Statement.{statement}
 use Rattle.draw.proofs.tile.draw_tile.Tie as tie
 
@@ -20,38 +12,22 @@ slice-aggregate-tags-tile c = search needs
 tags-tile-requires : tie.Need-tags-tile-requires
 tags-tile-requires c κs = search needs
 
-mul-row : tie.Need-mul-row
-mul-row c = search needs
+sub-draw-rows : tie.Need-sub-draw-rows
+sub-draw-rows c = search needs
 
-corner-requires : tie.Need-corner-requires
-corner-requires c κs = search needs
+part-draw-rows-start : tie.Need-part-draw-rows-start
+part-draw-rows-start c = search needs
 
-sub-put-rect : tie.Need-sub-put-rect
-sub-put-rect c = search needs
+part-draw-rows-end : tie.Need-part-draw-rows-end
+part-draw-rows-end c = search needs
 
-part-put-rect-start : tie.Need-part-put-rect-start
-part-put-rect-start c = search needs
-
-part-put-rect-end : tie.Need-part-put-rect-end
-part-put-rect-end c = search needs
-
-put-rect-requires : tie.Need-put-rect-requires
-put-rect-requires c κs =
+draw-rows-requires : tie.Need-draw-rows-requires
+draw-rows-requires c κs =
     let s = c .before .before .before .before .before .before .before .before .before .before in
     let a = s .args in
-    let l = s .pre .1 in
-    let e = c .before .before .before .corner .ensures in
-    let t = tile-tags (a .w) (a .h) (a .x) (a .y) (a .k) (a .r) (a .picture .now) (replicate 1744 0) _ (c .before .before .before .before .before .tags-tile .ensures) (s .pre .0)
-    (length-replicate {A = ℕ} 1744 0) in
-    (rw (e) (tile-room (a .w) (a .h) (a .x) (a .y) (a .k) (a .r) (length (a .output .now)) (s .pre .0) (l .for-output)), t .long)
-
-clear-tile-requires : tie.Need-clear-tile-requires
-clear-tile-requires c κs =
-    let s = c .before .before .before .before .before .before .before .before .before .before .before .before .before .before in
-    let a = s .args in
-    let m = s .pre .0 in
-    let rows = mul-le-mul-right (a .w) (m .down) in
-    (m .along, (omega (arith, m .down, m .high), omega (arith, rows, s .pre .1 .for-marks)))
+    let t = tile-tags (a .w) (a .h) (a .x) (a .y) (a .k) (a .r) (a .picture .now) (replicate 2352 0) _ (c .before .before .before .before .before .tags-tile .ensures) (s .pre .0)
+    (length-replicate {A = ℕ} 2352 0) in
+    ((s .pre .0, t), s .pre .1)
 
 same-length : tie.Need-same-length
 same-length c = search needs
@@ -60,24 +36,7 @@ same-length-2 : tie.Need-same-length-2
 same-length-2 c = search needs
 
 returns : tie.Need-returns
-returns c =
-    let s = c .before .before .before .before .before .before .before .before .before .before .before .before .before .before .before .before .before in
-    let a = s .args in
-    let m = s .pre .0 in
-    let e = c .before .before .before .before .before .before .before .before .before .before .corner .ensures in
-    let tagged = c .before .before .before .before .before .before .before .before .before .before .before .before .tags-tile in
-    let b = take 512 (drop 1232 (tagged .last .1 .1 .1 .1 .1 .1 .1 .0)) in
-    let t = tile-tags (a .w) (a .h) (a .x) (a .y) (a .k) (a .r) (a .picture .now) (replicate 1744 0) _ (tagged .ensures) m
-    (length-replicate {A = ℕ} 1744 0) in
-    record {
-      output-now =
-          c .before .before .before .before .before .before .put-rect .ensures
-          ∙ ap (λ (i : ℕ). putRect (3 * a .w) i (a .k) (a .r) (λ i j. blockFrom (a .w) (a .h) (words (a .w) (a .picture .now)) (a .x + i) (a .y + j)
-          (tagsAt b (j * (a .k * 4) + i * 4))) (a .output .now)) e
-          ∙ tile-drawn (a .w) (a .h) (a .x) (a .y) (a .k) (a .r) (a .picture .now) (a .output .now) (λ i j. tagsAt b (j * (a .k * 4) + i * 4))
-          (m .along) (m .down) (s .pre .1 .for-output) (t .each);
-      marks-now = c .before .before .clear-tile .ensures;
-    }
+returns c = c .before .before .before .before .draw-rows .ensures
 
 pub draw-tile-spec : {M : Type 1} → statement M
 draw-tile-spec =
@@ -85,13 +44,10 @@ draw-tile-spec =
     (tie.spec
     slice-aggregate-tags-tile
     tags-tile-requires
-    mul-row
-    corner-requires
-    sub-put-rect
-    part-put-rect-start
-    part-put-rect-end
-    put-rect-requires
-    clear-tile-requires
+    sub-draw-rows
+    part-draw-rows-start
+    part-draw-rows-end
+    draw-rows-requires
     same-length
     same-length-2
     returns)

@@ -4,11 +4,9 @@ use Prim.Native.Nat.{ℕ, _-_, _*_}
 use native.Mathlib.Omega.{arith}
 use borrow.Author.Needs.{needs}
 use lib.ListN.{length}
-use Rattle.machine.specs.Lists.{count}
 use Rattle.machine.specs.Lent.{Lent}
 use Rattle.machine.proofs.Lists.{firstFrom-length}
 use Rattle.machine.proofs.Ends.{lent, refresh-refused, refresh-done}
-use Rattle.machine.proofs.Places.{area}
 use Rattle.marks.specs.Marks.{staleIn}
 use Rattle.three.specs.Three.{screen3}
 use Rattle.session.proofs.Session.refresh.Statement.{statement}
@@ -32,32 +30,14 @@ lent-of c =
     lent screen3 (a .self .w) (a .self .h) (length (a .picture .now)) (length (a .output .now)) (length (a .marks .now))
     (sym (c .before .refuse-all .ensures) ∙ c .if1 .left)
 
-cast-count-stale : tie.Need-cast-count-stale
-cast-count-stale c = search needs
-
-cast-count-stale-2 : tie.Need-cast-count-stale-2
-cast-count-stale-2 c = search needs
-
-mul-count-stale : tie.Need-mul-count-stale
-mul-count-stale c =
-    let a = c .before .before .before .before .before .before .args in
-    let l = lent-of (c .before) in
-    omega (arith, area (a .self .w) (a .self .h) (l .wide) (l .high))
-
-count-stale-requires : tie.Need-count-stale-requires
-count-stale-requires c κs =
-    let a = c .before .before .before .before .before .before .args in
-    let l = lent-of (c .before) in
-    (omega arith, (area (a .self .w) (a .self .h) (l .wide) (l .high), l .for-marks))
-
 draw-first-requires : tie.Need-draw-first-requires
-draw-first-requires c κs = (lent-of (c .before .before .before .before), c .before .before .count-stale .ensures)
+draw-first-requires c κs = lent-of (c .before .before)
 
-sub-t21 : tie.Need-sub-t21
-sub-t21 c =
-    let a = c .before .before .before .before .before .before .before .before .before .before .before .before .before .before .args in
-    let few = firstFrom-length 0 (a .n) (staleIn 0 (a .self .w * a .self .h) (a .marks .now)) in
-    omega (arith, c .before .before .before .before .draw-first .ensures .drawn-now, c .before .before .before .before .before .before .before .count-stale .ensures, few)
+least-requires : tie.Need-least-requires
+least-requires c κs = search needs
+
+sub-t19 : tie.Need-sub-t19
+sub-t19 c = omega (arith, c .least .ensures)
 
 same-length : tie.Need-same-length
 same-length c = search needs
@@ -67,13 +47,16 @@ same-length-2 c = search needs
 
 returns-2 : tie.Need-returns-2
 returns-2 c =
-    let d = c .before .before .before .before .draw-first in
-    let k = c .before .before .before .before .before .before .before .before .before in
+    let d = c .before .before .before .before .before .draw-first in
+    let k = c .before .before .before .before .before .before .before .before in
     let r = k .before .refuse-all in
-    let a = k .before .before .before .before .before .args in
+    let a = c .before .before .before .before .before .before .before .before .before .before .before .before .before .args in
+    let s = staleIn 0 (a .self .w * a .self .h) (a .marks .now) in
+    let drawn = c .least .ensures in
     refresh-done screen3 (a .self .w) (a .self .h) (a .picture .now) (a .output .now) (a .marks .now) (r .result) (r .ensures) (a .n) (k .if1 .left)
-    (d .last .1 .0) (d .last .1 .1 .0) (d .result) (c .before .before .before .before .before .before .before .count-stale .result - d .result) (d .ensures .drawn-now) (d .ensures .output-now)
-    (d .ensures .marks-now) (ap (λ (n : ℕ). n - d .result) (c .before .before .before .before .before .before .before .count-stale .ensures))
+    (d .last .1 .0) (d .last .1 .1 .0) (c .least .result) (d .result - c .least .result)
+    (omega (arith, drawn, d .ensures .stale-before, firstFrom-length 0 (a .n) s)) (d .ensures .draws .output-now) (d .ensures .draws .marks-now)
+    (ap (λ (n : ℕ). n - c .least .result) (d .ensures .stale-before))
 
 pub refresh-spec : {M : Type 1} → statement M
 refresh-spec =
@@ -81,12 +64,9 @@ refresh-spec =
     (tie.spec
     refuse-all-requires
     returns
-    cast-count-stale
-    cast-count-stale-2
-    mul-count-stale
-    count-stale-requires
     draw-first-requires
-    sub-t21
+    least-requires
+    sub-t19
     same-length
     same-length-2
     returns-2)

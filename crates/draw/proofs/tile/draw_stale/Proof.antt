@@ -1,0 +1,193 @@
+-- `draw::tile::draw_stale` meets its contract. The stale ones of the first i blocks are drawn. Assumes nothing.
+use mathlib.Core.Path.{_≡_, refl, ap, _∙_, subst}
+use Prim.Native.Nat.{ℕ, _+_, _-_, _*_, _<_, _≤_}
+use native.Mathlib.Omega.{arith}
+use borrow.Author.Needs.{needs}
+use lib.ListN.{length, getD}
+use Rattle.machine.proofs.Places.{area, row-end}
+use Rattle.marks.specs.Marks.{staleIn, Inside}
+use Rattle.marks.proofs.Parts.{clear-row, run-one}
+use Rattle.three.specs.Three.{screen3}
+use Rattle.draw.specs.Steps.{Swept}
+use Rattle.draw.proofs.Loops.{draws-output-length, draws-marks-length}
+use Rattle.draw.proofs.Swept.{swept-none}
+use Rattle.draw.proofs.Parts.{swept-columns, run-swept}
+use Rattle.draw.proofs.Tagged.{tags-from}
+use Rattle.draw.proofs.tile.draw_stale.Statement.{statement}
+use Rattle.draw.proofs.tile.draw_stale.Tie as tie
+
+abbrev Inv-loop : tie.InvT-loop
+Inv-loop picture output₀ marks₀ w h x y k tags from start i₀ output marks i =
+    (i ≤ k) × (length output ≡ length output₀) × (length marks ≡ length marks₀)
+    × Swept screen3 w h (Inside w x (x + i) y (y + 1)) picture output₀ marks₀ output marks
+
+abbrev μ-loop : tie.MeasureT-loop
+μ-loop picture output₀ marks₀ w h x y k tags from start i₀ output marks i = k - i
+
+-- the row lies within the marks
+record Row (w h x y k m : ℕ) : Type 0 where
+  along : x + k ≤ w
+  within : y * w + w ≤ w * h
+  marked : w * h ≤ m
+  few : w * h ≤ 4194304
+
+abbrev RowAt : tie.Start Inv-loop μ-loop → ℕ → Type 0
+RowAt s m = let a = s .args in Row (a .w) (a .h) (a .x) (a .y) (a .k) m
+
+row-of : (s : tie.Start Inv-loop μ-loop) (m : ℕ) → m ≡ length (s .args .marks .now) → RowAt s m
+row-of s m e =
+    let a = s .args in
+    let t = s .pre .0 in
+    let p = s .pre .1 in
+    record {
+      along = t .along;
+      within = row-end (a .w) (a .h) (a .y) (t .down);
+      marked = omega (arith, p .for-marks, e);
+      few = area (a .w) (a .h) (p .wide) (p .high);
+    }
+
+mul-start : tie.Need-mul-start Inv-loop μ-loop
+mul-start c = omega (arith, row-of (c .before .before .before .before) _ refl)
+
+add-start : tie.Need-add-start Inv-loop μ-loop
+add-start c = omega (arith, row-of (c .before .before .before .before) _ refl)
+
+loop-holds : tie.Need-loop-holds Inv-loop μ-loop
+loop-holds c =
+    let a = c .before .before .before .before .args in
+    (omega arith, refl, refl, swept-none screen3 (a .w) (a .h) (a .picture .now) (a .output .now) (a .marks .now) (λ b i. absurd (omega (arith, i .left, i .right))))
+
+cast-b : tie.Need-cast-b Inv-loop μ-loop
+cast-b c = search needs
+
+add-b : tie.Need-add-b Inv-loop μ-loop
+add-b c = omega (arith, row-of (c .before .before .before .before .before .before) _ (c .before .loop .inv .2))
+
+slice-read-if1 : tie.Need-slice-read-if1 Inv-loop μ-loop
+slice-read-if1 c = omega (arith, row-of (c .before .before .before .before .before .before .before) _ (c .before .before .loop .inv .2))
+
+add-i : tie.Need-add-i Inv-loop μ-loop
+add-i c = search needs
+
+loop-less : tie.Need-loop-less Inv-loop μ-loop
+loop-less c = search needs
+
+loop-again : tie.Need-loop-again Inv-loop μ-loop
+loop-again c =
+    let a = c .before .before .before .before .before .before .before .before .args in
+    let l = c .before .before .before .loop in
+    let r = row-of (c .before .before .before .before .before .before .before .before) _ (l .inv .2) in
+    let at : a .y * a .w + (a .x + l .i) ≡ a .y * a .w + a .x + l .i = omega arith in (
+      omega arith,
+      l .inv .1,
+      l .inv .2,
+      swept-columns screen3 (a .w) (a .h) (a .picture .now) (a .x + l .i) (omega arith) (omega arith) (l .inv .3)
+          (swept-none screen3 (a .w) (a .h) (a .picture .now) (l .output) (l .marks)
+          (clear-row (a .w) (l .marks) (a .x + l .i) (a .x + (l .i + 1)) (a .y)
+          (run-one (l .marks) (a .y * a .w + (a .x + l .i)) (a .y * a .w + (a .x + (l .i + 1))) (omega arith)
+          (ap (λ (b : ℕ). getD (l .marks) b 0) at ∙ c .if1 .taken)))),
+    )
+
+sub-stale-run : tie.Need-sub-stale-run Inv-loop μ-loop
+sub-stale-run c = search needs
+
+stale-run-requires : tie.Need-stale-run-requires Inv-loop μ-loop
+stale-run-requires c κs =
+    let r = row-of (c .before .before .before .before .before .before .before .before .before) _ (c .before .before .before .before .loop .inv .2) in
+    (omega arith, (omega (arith, r), c .before .if1 .left))
+
+add-draw-run : tie.Need-add-draw-run Inv-loop μ-loop
+add-draw-run c = search needs
+
+cast-draw-run : tie.Need-cast-draw-run Inv-loop μ-loop
+cast-draw-run c = search needs
+
+mul-draw-run : tie.Need-mul-draw-run Inv-loop μ-loop
+mul-draw-run c = search needs
+
+add-draw-run-2 : tie.Need-add-draw-run-2 Inv-loop μ-loop
+add-draw-run-2 c = search needs
+
+draw-run-requires : tie.Need-draw-run-requires Inv-loop μ-loop
+draw-run-requires c κs =
+    let s = c .before .before .before .before .before .before .before .before .before .before .before .before in
+    let a = s .args in
+    let l = c .before .before .before .before .before .before .before .loop in
+    let p = s .pre .1 in
+    let n = c .before .before .stale-run in (
+      (n .ensures .some, tags-from (a .w) (a .h) (a .x) (a .y) (a .k) (a .from) (l .i) (n .result) (a .picture .now) (a .tags .now) (omega (arith, n .ensures .few)) (s .pre .0)),
+      record {
+        wide = p .wide;
+        high = p .high;
+        for-picture = p .for-picture;
+        for-output = omega (arith, p .for-output, l .inv .1);
+        for-marks = omega (arith, p .for-marks, l .inv .2);
+      },
+    )
+
+add-i-2 : tie.Need-add-i-2 Inv-loop μ-loop
+add-i-2 c = search needs
+
+loop-less-2 : tie.Need-loop-less-2 Inv-loop μ-loop
+loop-less-2 c = search needs
+
+loop-again-2 : tie.Need-loop-again-2 Inv-loop μ-loop
+loop-again-2 c =
+    let s = c .before .before .before .before .before .before .before .before .before .before .before .before .before .before .before .before .before in
+    let a = s .args in
+    let l = c .before .before .before .before .before .before .before .before .before .before .before .before .loop in
+    let n = c .before .before .before .before .before .before .before .stale-run in
+    let r = row-of s _ (l .inv .2) in
+    let d = c .before .before .before .before .draw-run .ensures in
+    let at : a .y * a .w + (a .x + l .i) ≡ a .y * a .w + a .x + l .i = omega arith in
+    let all = ap (λ (b : ℕ). staleIn b (b + n .result) (l .marks)) at ∙ n .ensures .all-stale in (
+      omega (arith, n .ensures .few),
+      draws-output-length screen3 (a .w) (a .h) (a .picture .now) d ∙ l .inv .1,
+      draws-marks-length screen3 (a .w) (a .h) (a .picture .now) d ∙ l .inv .2,
+      swept-columns screen3 (a .w) (a .h) (a .picture .now) (a .x + l .i) (omega arith) (omega arith) (l .inv .3)
+          (run-swept screen3 (a .w) (a .h) (a .picture .now) (a .x + l .i) (a .x + (l .i + n .result)) (a .y) (n .result) (n .ensures .some)
+          (omega arith) (omega (arith, n .ensures .few, r)) all d),
+    )
+
+same-length : tie.Need-same-length Inv-loop μ-loop
+same-length c = search needs
+
+same-length-2 : tie.Need-same-length-2 Inv-loop μ-loop
+same-length-2 c = search needs
+
+returns : tie.Need-returns Inv-loop μ-loop
+returns c =
+    let a = c .before .before .before .before .before .before .args in
+    let l = c .before .loop in
+    let e : a .x + l .i ≡ a .x + a .k = omega arith in
+    subst (λ (x′ : ℕ). Swept screen3 (a .w) (a .h) (Inside (a .w) (a .x) x′ (a .y) (a .y + 1)) (a .picture .now) (a .output .now) (a .marks .now)
+    (l .output) (l .marks)) e (l .inv .3)
+
+pub draw-stale-spec : {M : Type 1} → statement M
+draw-stale-spec =
+    tie.close
+    (tie.spec
+    Inv-loop
+    μ-loop
+    mul-start
+    add-start
+    loop-holds
+    cast-b
+    add-b
+    slice-read-if1
+    add-i
+    loop-less
+    loop-again
+    sub-stale-run
+    stale-run-requires
+    add-draw-run
+    cast-draw-run
+    mul-draw-run
+    add-draw-run-2
+    draw-run-requires
+    add-i-2
+    loop-less-2
+    loop-again-2
+    same-length
+    same-length-2
+    returns)
