@@ -87,7 +87,8 @@ loop-again c =
     let lo = l .y * a .w in
     let e : (l .y + 1) * a .w ≡ lo + a .w = add-one-mul (l .y) (a .w) in
     let row = row-end (a .w) (a .h) (l .y) (omega arith) in
-    let none = sym (c .if2 .taken) ∙ c .before .count-stale .ensures ∙ ap (λ (j : ℕ). count (staleIn lo j (l .marks))) (sym e) in (
+    let zero : 0 ≡ c .before .count-stale .result = omega (arith, c .if2 .taken) in
+    let none = zero ∙ c .before .count-stale .ensures ∙ ap (λ (j : ℕ). count (staleIn lo j (l .marks))) (sym e) in (
       omega arith,
       first-more screen3 (a .w) (a .h) (a .picture .now) (omega (arith, e)) (omega (arith, e, row, s .pre .for-marks)) (omega arith) (l .inv .1)
           (first-none screen3 (a .w) (a .h) (a .picture .now) (l .output) (l .marks) none (none-stale lo ((l .y + 1) * a .w) (a .n - l .stale) (l .marks) (sym none))),

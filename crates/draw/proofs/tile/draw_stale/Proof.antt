@@ -77,6 +77,7 @@ loop-again c =
     let a = c .before .before .before .before .before .before .before .before .args in
     let l = c .before .before .before .loop in
     let r = row-of (c .before .before .before .before .before .before .before .before) _ (l .inv .2) in
+    let zero : getD (l .marks) (a .y * a .w + a .x + l .i) 0 ≡ 0 = omega (arith, c .if1 .taken) in
     let at : a .y * a .w + (a .x + l .i) ≡ a .y * a .w + a .x + l .i = omega arith in (
       omega arith,
       l .inv .1,
@@ -85,7 +86,7 @@ loop-again c =
           (swept-none screen3 (a .w) (a .h) (a .picture .now) (l .output) (l .marks)
           (clear-row (a .w) (l .marks) (a .x + l .i) (a .x + (l .i + 1)) (a .y)
           (run-one (l .marks) (a .y * a .w + (a .x + l .i)) (a .y * a .w + (a .x + (l .i + 1))) (omega arith)
-          (ap (λ (b : ℕ). getD (l .marks) b 0) at ∙ c .if1 .taken)))),
+          (ap (λ (b : ℕ). getD (l .marks) b 0) at ∙ zero)))),
     )
 
 sub-stale-run : tie.Need-sub-stale-run Inv-loop μ-loop
