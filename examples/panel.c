@@ -144,7 +144,7 @@ static void show_block(void)
     EXPECT(show(W, 2, words) == PANEL_OUTSIDE);
 }
 
-/* A paint, and a refresh of all that it made stale: columns 1 to 7 of rows 0 to 5, the sixth beside and below. */
+/* A paint, and a refresh of all that it made stale: columns 1 to 7 of rows 0 to 3, and columns 4 to 7 of rows 4 and 5. */
 static void change(void)
 {
     uint32_t refusal, stale, changed, drawn, left;
@@ -153,14 +153,36 @@ static void change(void)
     EXPECT(changed == 0 && stale == 0);
     printf("paint of an equal word: changed %" PRIu32 ", %" PRIu32 " stale\n", changed, stale);
     EXPECT(paint(7, 0, 0x00c00000u, &changed, &stale) == PANEL_NONE);
-    EXPECT(changed == 1 && stale == 42 && picture[7] == 0x00c00000u);
+    EXPECT(changed == 1 && stale == 36 && picture[7] == 0x00c00000u);
     printf("paint of another word: changed %" PRIu32 ", %" PRIu32 " stale\n", changed, stale);
     refusal = paint(W, 0, 0, &changed, &stale);
     EXPECT(refusal == PANEL_OUTSIDE && changed == 0 && stale == 0);
     printf("paint outside: refusal %" PRIu32 "\n", refusal);
     EXPECT(refresh(UINT32_MAX, &drawn, &left) == PANEL_NONE);
-    EXPECT(drawn == 42 && left == 0);
+    EXPECT(drawn == 36 && left == 0);
     printf("refresh: %" PRIu32 " drawn, %" PRIu32 " left\n", drawn, left);
+}
+
+/* A cursor on a page of 32 by 32: each paint makes a cross of 120 blocks stale, less what a border cuts off. */
+static void cursor(void)
+{
+    enum { SIDE = 32, PAINTS = 3 };
+    static uint32_t page[PANEL_PICTURE_LEN(SIDE, SIDE)], enlarged[PANEL_OUTPUT_LEN(SIDE, SIDE)];
+    static uint8_t page_marks[PANEL_MARKS_LEN(SIDE, SIDE)];
+    static const uint32_t at[PAINTS] = {10, 0, 31}, expected[PAINTS] = {120, 40, 33};
+    uint32_t page_header[PANEL_HEADER_LEN], changed, stale, drawn, left;
+
+    EXPECT(panel_open(SIDE, SIDE, page, PANEL_PICTURE_LEN(SIDE, SIDE), enlarged, PANEL_OUTPUT_LEN(SIDE, SIDE), page_marks,
+                      PANEL_MARKS_LEN(SIDE, SIDE), page_header, &stale) == PANEL_NONE);
+    for (size_t i = 0; i < PAINTS; i++) {
+        EXPECT(panel_refresh(page_header, page, PANEL_PICTURE_LEN(SIDE, SIDE), enlarged, PANEL_OUTPUT_LEN(SIDE, SIDE),
+                             page_marks, PANEL_MARKS_LEN(SIDE, SIDE), UINT32_MAX, &drawn, &left) == PANEL_NONE);
+        EXPECT(drawn == stale && left == 0);
+        EXPECT(panel_paint(page_header, page, PANEL_PICTURE_LEN(SIDE, SIDE), page_marks, PANEL_MARKS_LEN(SIDE, SIDE),
+                           at[i], at[i], 0x00ffffffu, &changed, &stale) == PANEL_NONE);
+        EXPECT(changed == 1 && stale == expected[i]);
+        printf("cursor at (%" PRIu32 ", %" PRIu32 ") of 32 by 32: %" PRIu32 " stale\n", at[i], at[i], stale);
+    }
 }
 
 static uint32_t scale_with(size_t bytes_len)
@@ -244,6 +266,7 @@ int main(void)
     first_drawing();
     show_block();
     change();
+    cursor();
     whole();
     nine();
     page();

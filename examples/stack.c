@@ -2,7 +2,7 @@
  * Holds the stack that each call takes to PANEL_STACK_BYTES: stack PAGE [--figures], PAGE being a page file.
  * A call is made on a thread whose stack was filled with one byte value before; from the lowest byte on that has
  * another value afterwards, the stack was used. What an empty call uses in the same way is taken off. The pictures are
- * larger than a tile of 16 by 8 blocks and no multiple of it: the page, repeated; noise; one colour. --figures prints
+ * larger than a tile of 16 by 12 blocks and no multiple of it: the page, repeated; noise; one colour. --figures prints
  * what each call takes at most.
  */
 #define _POSIX_C_SOURCE 200809L

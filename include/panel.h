@@ -39,15 +39,14 @@
  * else in MXCSR.
  *
  * Costs of a session. An opening writes the whole output, with 0, and all marks. A paint counts all marks once (wh
- * bytes are read), also where the word is equal; a changed pixel makes at most 13 by 12, which is 156, blocks stale.
- * A refresh counts all marks once too, and reads them again row by row, all of them or up to the block where a slice
- * ends. A refresh in slices of n counts all marks once more for each slice. Where n is at least the number of stale
- * blocks, they are drawn in rectangles of up to 16 by 8, which share work; a slice that leaves some stale draws runs
- * of up to 16 in one row, which share less. Measured at 256 by 256 (docs/PERFORMANCE.md of the repository), on a page
- * of text and on noise: the first refresh of everything took a little more than twice as long as panel_scale; one
- * changed pixel, its paint and its refresh, took about a hundredth of panel_scale. So, where most of a page changes,
- * do not paint every pixel: store the words in the picture and open anew, which takes one opening and one refresh of
- * everything.
+ * bytes are read), also where the word is equal; a changed pixel makes at most 120 blocks stale, a cross round it. A
+ * refresh counts all marks once too; in slices of n, once for each slice. Blocks are drawn in tiles of up to 16 by 12,
+ * each the rectangle round stale blocks, of which the stale ones are written; a tile's blocks share work, so a slice
+ * that ends within a row of stale blocks costs more for each block than one that takes whole rows. Measured at 256 by
+ * 256 (docs/PERFORMANCE.md of the repository), on a page of text and on noise: the first refresh of everything took
+ * about twice as long as panel_scale; one changed pixel, its paint and its refresh, took less than a hundredth of
+ * panel_scale. So, where most of a page changes, do not paint every pixel: store the words in the picture and open
+ * anew, which takes one opening and one refresh of everything.
  */
 #ifndef PANEL_H
 #define PANEL_H
@@ -60,14 +59,14 @@ extern "C" {
 #endif
 
 /* The version of this header: major * 10000 + minor * 100 + patch, and the three with points between. */
-#define PANEL_VERSION 100u
-#define PANEL_VERSION_STRING "0.1.0"
+#define PANEL_VERSION 200u
+#define PANEL_VERSION_STRING "0.2.0"
 
 /*
  * No call takes more bytes of stack than this. It is measured, not proved: examples/stack.c, with what memset of the C
  * library takes counted, and without what a dynamic linker takes that looks memset up at its first call.
  */
-#define PANEL_STACK_BYTES 20480u
+#define PANEL_STACK_BYTES 24576u
 
 #define PANEL_NONE 0u      /* not refused */
 #define PANEL_SIDE 1u      /* a side past its limit */

@@ -1,6 +1,5 @@
 -- Bands of rows: their stale blocks drawn, all of them or the first n. Assumes nothing.
 use mathlib.Core.Path.{_≡_, refl, sym, ap, _∙_}
-use mathlib.Core.Logic.{⊎-elim}
 use mathlib.Core.List.{List, [], _++_, append-nil}
 use Prim.Native.Nat.{ℕ, zero, suc, _+_, _-_, _*_, _/_, _%_, _≤_, _<_}
 use native.Mathlib.Nat.{le-div-iff-mul-le, div-lt-iff-lt-mul, mod-lt, mul-zero}
@@ -14,7 +13,7 @@ use Rattle.marks.specs.Marks.{staleIn, chosen, Inside}
 use Rattle.marks.proofs.Counts.{chosen-split, none-wanted}
 use Rattle.draw.specs.Steps.{Draws, Swept}
 use Rattle.draw.proofs.Loops.{draws-same}
-use Rattle.draw.proofs.Swept.{Run, swept-two, swept-as, swept-done}
+use Rattle.draw.proofs.Swept.{swept-two, swept-as, swept-done}
 use Rattle.draw.proofs.Parts.{rows-run, run-rows, whole-before, last-before, before-end}
 
 -- ---- where the first n end

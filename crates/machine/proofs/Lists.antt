@@ -142,10 +142,6 @@ pub first-none : (i : ℕ) (l : List Bool) → firstFrom i 0 l ≡ []
 first-none i [] = refl
 first-none i (t ∷ l) = refl
 
-pub first-false : (i n : ℕ) → firstFrom i n (false ∷ []) ≡ []
-first-false i zero = refl
-first-false i (suc n) = refl
-
 pub firstFrom-append : (i n : ℕ) (l r : List Bool)
     → firstFrom i n (l ++ r) ≡ firstFrom i n l ++ firstFrom (i + length l) (n - length (firstFrom i n l)) r
 firstFrom-append i n [] r = ap₂ (λ (j k : ℕ). firstFrom j k r) (sym (add-zero i)) (sym (sub-zero n))

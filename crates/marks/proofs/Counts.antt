@@ -2,7 +2,7 @@
 use mathlib.Core.Path.{_≡_, refl, sym, ap, ap₂, _∙_}
 use mathlib.Core.Bool.{Bool, true, false}
 use mathlib.Core.List.{List, [], _∷_, _++_, map}
-use Prim.Native.Nat.{ℕ, suc, _+_, _-_, _≤_, _<_, min}
+use Prim.Native.Nat.{ℕ, suc, _+_, _-_, _≤_, _<_}
 use native.Mathlib.Numerals.{add-one}
 use native.Mathlib.Omega.{arith}
 use lib.Dec.{eqb}
@@ -12,9 +12,9 @@ use borrow.Author.Tests.{eqb-true, not-false}
 use Rattle.picture.specs.Fill.{getD-any}
 use Rattle.machine.specs.Lists.{setAll, count, firstFrom}
 use Rattle.machine.specs.Calls.{isStale}
-use Rattle.machine.proofs.Lists.{Below, firstFrom-below, firstFrom-append, firstFrom-length, firstFrom-min, first-none, first-false, first-replicate}
-use Rattle.machine.proofs.Lists.{count-le, count-append, count-replicate, slice-split, map-append, none-true, setAll-two, table-snoc}
-use Rattle.machine.proofs.Ends.{is-stale, not-stale}
+use Rattle.machine.proofs.Lists.{Below, firstFrom-below, firstFrom-append, firstFrom-length, first-none}
+use Rattle.machine.proofs.Lists.{count-le, count-append, slice-split, map-append, none-true, setAll-two, table-snoc}
+use Rattle.machine.proofs.Ends.{is-stale}
 use Rattle.marks.specs.Marks.{staleIn, chosen, blocksFrom}
 
 -- ---- a count
@@ -65,9 +65,6 @@ stale-after i j k n m a b l =
     let low : Below j (chosen i j n m) = firstFrom-below i n (staleIn i j m) j (omega (arith, length-stale i j m (omega arith))) in
     ap (map isStale) (slice-setAll j k (chosen i j n m) m low b)
 
-pub length-chosen : (i j n : ℕ) (m : List ℕ) → j ≤ length m → length (chosen i j n m) ≤ j - i
-length-chosen i j n m h = omega (arith, firstFrom-length i n (staleIn i j m), count-run-le i j m h)
-
 -- the blocks from i on: those before j, and then those from j on
 pub chosen-split : (i j k n : ℕ) (m : List ℕ) → i ≤ j → j ≤ k → k ≤ length m
     → chosen i k n m ≡ chosen i j n m ++ chosen j k (n - length (chosen i j n m)) (setAll (chosen i j n m) 0 m)
@@ -90,17 +87,6 @@ run-more i k m e l t =
     ∙ ap₂ {C = List Bool} _++_ e (stale-one (i + k) (i + (k + 1)) m q l ∙ ap {B = List Bool} (λ t. t ∷ []) t)
     ∙ replicate-append-replicate k 1 true
 
--- all of them are chosen, where as many are asked for
-pub run-chosen : (i j k n : ℕ) (m : List ℕ) → j ≡ i + k → staleIn i (i + k) m ≡ replicate k true → k ≤ n → chosen i j n m ≡ blocksFrom i k
-run-chosen i j k n m q e l =
-    let c : min n (count (replicate k true)) ≡ k = omega (arith, count-replicate k) in
-    ap (λ (j : ℕ). chosen i j n m) q ∙ ap (firstFrom i n) e ∙ sym (firstFrom-min i n (replicate k true))
-    ∙ ap (λ (c : ℕ). firstFrom i c (replicate k true)) c ∙ first-replicate i k (λ j. i + j) (λ j. refl)
-
-pub block-passed : (i j n : ℕ) (m : List ℕ) → j ≡ i + 1 → i < length m → getD m i 0 ≡ 0 → chosen i j n m ≡ []
-block-passed i j n m q l e =
-    ap (firstFrom i n) (stale-one i j m q l) ∙ ap (λ (t : Bool). firstFrom i n (t ∷ [])) (not-stale (getD m i 0) e) ∙ first-false i n
-
 pub none-wanted : (i k n d : ℕ) (m : List ℕ) → n ≤ d → chosen i k (n - d) m ≡ []
 none-wanted i k n d m h = ap (λ (j : ℕ). firstFrom i j (staleIn i k m)) zero-left ∙ first-none i (staleIn i k m)
   where
@@ -117,10 +103,6 @@ none-stale i j n m e = empty (chosen i j n m) (omega (arith, firstFrom-length i 
     empty : (l : List ℕ) → length l ≡ 0 → l ≡ []
     empty [] q = refl
     empty (x ∷ l) q = absurd (omega arith)
-
--- no more are chosen than asked for
-pub chosen-le : (i j n : ℕ) (m : List ℕ) → length (chosen i j n m) ≤ n
-chosen-le i j n m = omega (arith, firstFrom-length i n (staleIn i j m))
 
 -- ---- blocks cleared: one more of a run
 

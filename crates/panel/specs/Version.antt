@@ -5,9 +5,9 @@ use Prim.Native.Nat.{ℕ, _+_, _*_}
 abbrev pub major : ℕ
 major = 0
 
--- raised where a call is added
+-- raised where a call is added, or answers otherwise
 abbrev pub minor : ℕ
-minor = 1
+minor = 2
 
 -- raised where neither is so
 abbrev pub patch : ℕ

@@ -11,8 +11,8 @@ use Rattle.picture.specs.Picture.{words}
 use Rattle.block.specs.Block.{blockOf}
 use Rattle.whole.specs.Whole.{scaleOf}
 use Rattle.whole.specs.Laws.{scale-block, scale-length}
-use Rattle.machine.specs.Lists.{table, has}
-use Rattle.machine.specs.Machine.{Call, Answer, putAll, blockAt, after}
+use Rattle.machine.specs.Lists.{table}
+use Rattle.machine.specs.Machine.{Call, Answer, blockAt, after}
 use Rattle.machine.specs.Demand3.{Buffers, Trace, whole, started, left}
 use Rattle.machine.proofs.Places.{column-lt, row-lt, spot-onto}
 use Rattle.machine.proofs.Good.{spotOf, length-putAll}

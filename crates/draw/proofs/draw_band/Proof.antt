@@ -1,5 +1,4 @@
 -- `draw::draw_band` meets its contract. Assumes nothing.
-use mathlib.Core.Path.{sym, _∙_}
 use Prim.Native.Nat.{ℕ, _*_, _≤_}
 use native.Mathlib.Nat.{mul-le-mul-right}
 use native.Mathlib.Omega.{arith}
@@ -71,8 +70,8 @@ returns c =
     let s = c .before .before .before .before .before .before .before .before .before .before .before .before .before in
     let a = s .args in
     let b = band-of s in
-    band-all screen3 lawful3 (a .w) (a .h) (s .pre .1 .for-output) (b .up) (b .top) (b .marked) (c .before .before .before .before .before .before .before .before .count-stale .ensures)
-    (c .before .before .before .before .before .before .before .if1 .taken) (c .before .before .before .before .draw-part .ensures)
+    let counted = c .before .before .before .before .before .before .before .before .count-stale .ensures in
+    band-all screen3 lawful3 (a .w) (a .h) (s .pre .1 .for-output) (b .up) (b .top) (b .marked) counted (c .before .before .before .before .before .before .before .if1 .taken) (c .before .before .before .before .draw-part .ensures)
 
 stale-end-requires : tie.Need-stale-end-requires
 stale-end-requires c κs =
@@ -89,9 +88,10 @@ cast-row c =
 
 draw-part-requires-2 : tie.Need-draw-part-requires-2
 draw-part-requires-2 c κs =
-    let i = c .before .before .before .before .before .before .before .before .before .before .pre .0 in
+    let s = c .before .before .before .before .before .before .before .before .before .before in
+    let i = s .pre .0 in
     let e = end-at (c .before .before) in
-    ((omega arith, (e .from, (omega (arith, e .to, i), omega (arith, e .to, i)))), c .before .before .before .before .before .before .before .before .before .before .pre .1)
+    ((omega arith, (e .from, (omega (arith, e .to, i), omega (arith, e .to, i)))), s .pre .1)
 
 rem-draw-part : tie.Need-rem-draw-part
 rem-draw-part c = end-at (c .before .before .before .before .before .before .before .before .before) .some
@@ -137,8 +137,9 @@ returns-2 c =
     let b = band-of s in
     let q = c .before .before .before .before .before .before .before .before .before .before .before .before .before .before in
     let e = q .stale-end .ensures in
-    band-part screen3 lawful3 (a .w) (a .h) (s .pre .1 .for-output) (b .up) (b .top) (b .marked) (c .before .before .before .before .before .before .before .before .before .before .before .before .before .before .before .before .before .count-stale .ensures)
-    (q .stale-end .result) (end-at q) (e .0) (e .1 .0) (e .1 .1) (c .before .before .before .before .before .before .before .before .before .before .before .draw-part2 .ensures) (c .before .before .before .before .draw-part3 .ensures)
+    let above = c .before .before .before .before .before .before .before .before .before .before .before .draw-part2 .ensures in
+    band-part screen3 lawful3 (a .w) (a .h) (s .pre .1 .for-output) (b .up) (b .top) (b .marked) (q .before .before .before .count-stale .ensures)
+    (q .stale-end .result) (end-at q) (e .0) (e .1 .0) (e .1 .1) above (c .before .before .before .before .draw-part3 .ensures)
 
 pub draw-band-spec : {M : Type 1} → statement M
 draw-band-spec =

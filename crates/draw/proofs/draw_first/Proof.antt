@@ -2,7 +2,7 @@
 use mathlib.Core.Path.{_≡_, refl, sym, ap, _∙_, subst}
 use mathlib.Core.Logic.{⊎-elim}
 use mathlib.Core.List.{[]}
-use Prim.Native.Nat.{ℕ, _+_, _-_, _*_, _<_, _≤_}
+use Prim.Native.Nat.{ℕ, _+_, _-_, _*_, _≤_}
 use native.Mathlib.Nat.{zero-mul, mul-le-mul-right, mul-comm, le-antisymm}
 use native.Mathlib.Omega.{arith}
 use borrow.Author.Needs.{needs}
@@ -126,7 +126,8 @@ add-stale c =
     let a = s .args in
     let l = c .before .before .before .before .before .before .before .before .before .before .before .before .before .loop in
     let r = rows-of (c .before .before .before .before .before .before .before .before .before .before .before .before .before) in
-    let low : c .before .before .before .before .before .before .before .least .result ≤ a .h = omega (arith, c .before .before .before .before .before .before .before .least .ensures) in
+    let b = c .before .before .before .before .before .before .before .least in
+    let low : b .result ≤ a .h = omega (arith, b .ensures) in
     let end = mul-le-mul-right (a .w) low in
     omega (
       arith,
@@ -184,10 +185,14 @@ add-result c =
     )
 
 same-length : tie.Need-same-length Inv-loop μ-loop
-same-length c = let a = c .before .before .before .before .before .before .before .args in draws-output-length screen3 (a .w) (a .h) (a .picture .now) (c .before .before .before .loop .inv .1 .draws)
+same-length c =
+    let a = c .before .before .before .before .before .before .before .args in
+    draws-output-length screen3 (a .w) (a .h) (a .picture .now) (c .before .before .before .loop .inv .1 .draws)
 
 same-length-2 : tie.Need-same-length-2 Inv-loop μ-loop
-same-length-2 c = let a = c .before .before .before .before .before .before .before .args in draws-marks-length screen3 (a .w) (a .h) (a .picture .now) (c .before .before .before .loop .inv .1 .draws)
+same-length-2 c =
+    let a = c .before .before .before .before .before .before .before .args in
+    draws-marks-length screen3 (a .w) (a .h) (a .picture .now) (c .before .before .before .loop .inv .1 .draws)
 
 returns : tie.Need-returns Inv-loop μ-loop
 returns c =

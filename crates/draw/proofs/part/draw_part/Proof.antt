@@ -1,6 +1,6 @@
 -- `draw::part::draw_part` meets its contract. The stale blocks before column x are drawn. Assumes nothing.
 use mathlib.Core.Path.{_≡_, refl, _∙_, subst}
-use Prim.Native.Nat.{ℕ, _+_, _-_, _*_, _<_, _≤_}
+use Prim.Native.Nat.{ℕ, _-_, _≤_}
 use native.Mathlib.Omega.{arith}
 use borrow.Author.Needs.{needs}
 use lib.ListN.{length}
@@ -75,10 +75,11 @@ first-column-requires-2 c κs =
     let p = s .pre .1 in
     let l = c .before .before .before .before .before .before .before .before .before .before .loop in
     let d = c .before .before .before .before .before .draw-window in
-    let e = c .before .before .before .before .before .before .before .before .least .ensures in
+    let to = c .before .before .before .before .before .before .before .before .least in
+    let e = to .ensures in
     let long = draws-marks-length screen3 (a .w) (a .h) (a .picture .now) (d .ensures .draws) ∙ l .inv .2 in
-    part-of (a .w) (a .h) (c .before .before .before .before .before .before .before .before .least .result) (a .end) (a .y) (a .bottom) (d .last .1 .1 .0) (p .wide) (p .high) (omega (arith, p .for-marks, long))
-    (omega (arith, e)) (omega arith) (omega arith) (omega arith)
+    part-of (a .w) (a .h) (to .result) (a .end) (a .y) (a .bottom) (d .last .1 .1 .0) (p .wide) (p .high)
+    (omega (arith, p .for-marks, long)) (omega (arith, e)) (omega arith) (omega arith) (omega arith)
 
 loop-less : tie.Need-loop-less Inv-loop μ-loop
 loop-less c =

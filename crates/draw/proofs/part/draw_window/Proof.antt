@@ -1,5 +1,5 @@
 -- `draw::part::draw_window` meets its contract. Assumes nothing.
-use Prim.Native.Nat.{ℕ, _≤_, _<_}
+use Prim.Native.Nat.{ℕ, _≤_}
 use native.Mathlib.Omega.{arith}
 use borrow.Author.Needs.{needs}
 use Rattle.marks.specs.Marks.{Part}
@@ -21,15 +21,20 @@ part-at s y y′ r d =
     (omega (arith, i .down))
 
 first-row-requires : tie.Need-first-row-requires
-first-row-requires c κs = let i = c .before .before .before .before .pre .0 in (i .some-rows, part-at (c .before .before .before .before) _ _ (omega (arith, i .some-rows)) (omega arith))
+first-row-requires c κs =
+    let s = c .before .before .before .before in
+    (s .pre .0 .some-rows, part-at s _ _ (omega (arith, s .pre .0 .some-rows)) (omega arith))
 
 row-end-requires : tie.Need-row-end-requires
-row-end-requires c κs = let f = c .before .first-row .ensures in (f .1 .0, part-at (c .before .before .before .before .before .before) _ _ (omega (arith, f .1 .0)) (omega arith))
+row-end-requires c κs =
+    let f = c .before .first-row .ensures in
+    (f .1 .0, part-at (c .before .before .before .before .before .before) _ _ (omega (arith, f .1 .0)) (omega arith))
 
 column-end-requires : tie.Need-column-end-requires
 column-end-requires c κs =
+    let s = c .before .before .before .before .before .before .before .before in
     let e = c .before .row-end .ensures in
-    (c .before .before .before .before .before .before .before .before .pre .0 .some-columns, part-at (c .before .before .before .before .before .before .before .before) _ _ (omega (arith, e .0)) (e .1 .0))
+    (s .pre .0 .some-columns, part-at s _ _ (omega (arith, e .0)) (e .1 .0))
 
 sub-draw-tile : tie.Need-sub-draw-tile
 sub-draw-tile c = search needs
@@ -65,12 +70,15 @@ same-length-2 c = search needs
 
 returns : tie.Need-returns
 returns c =
+    let right = c .before .before .before .before .before .before .before .column-end in
+    let low = c .before .before .before .before .before .before .before .before .before .row-end in
+    let top = c .before .before .before .before .before .before .before .before .before .before .before .first-row in
     let a = c .before .before .before .before .before .before .before .before .before .before .before .before .before .before .before .before .args in
-    let f = c .before .before .before .before .before .before .before .before .before .before .before .first-row .ensures in
-    let e = c .before .before .before .before .before .before .before .before .before .row-end .ensures in
-    let r = c .before .before .before .before .before .before .before .column-end .ensures in
-    window-swept screen3 (a .w) (a .h) (a .picture .now) (a .x) (a .end) (a .y) (a .bottom) (c .before .before .before .before .before .before .before .column-end .result) (c .before .before .before .before .before .before .before .before .before .before .before .first-row .result)
-    (c .before .before .before .before .before .before .before .before .before .row-end .result) (omega (arith, r .0)) (r .1 .0) (f .0) (omega (arith, e .0)) (e .1 .0) (f .1 .1) (r .1 .1) (e .1 .1) (c .before .before .before .before .draw-tile .ensures)
+    let r = right .ensures in
+    let e = low .ensures in
+    let f = top .ensures in
+    window-swept screen3 (a .w) (a .h) (a .picture .now) (a .x) (a .end) (a .y) (a .bottom) (right .result) (top .result) (low .result)
+    (omega (arith, r .0)) (r .1 .0) (f .0) (omega (arith, e .0)) (e .1 .0) (f .1 .1) (r .1 .1) (e .1 .1) (c .before .before .before .before .draw-tile .ensures)
 
 pub draw-window-spec : {M : Type 1} → statement M
 draw-window-spec =
