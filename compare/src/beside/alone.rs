@@ -1,7 +1,7 @@
 //! One session call alone: what it answers and leaves by the rules, whatever header, marks and lengths it is lent.
 
 use super::lent::{Bits, Lent};
-use super::machine::{Answer, Call};
+use super::machine::{names, Answer, Call};
 use super::original;
 use crate::panel;
 
@@ -92,7 +92,7 @@ fn alone(header: [u32; 2], buffers: &mut Buffers, call: Call) -> Answer {
     }
     let (w, h) = (header[0] as usize, header[1] as usize);
     match call {
-        Call::Paint { column, row, word } => paint(w, h, buffers, column as usize, row as usize, word),
+        Call::Paint { column, row, word } => paint(w, h, buffers, (column as usize, row as usize), word),
         Call::Refresh { n } => refresh(w, h, buffers, n),
         Call::Show { bx, by } => show(w, buffers, bx as usize, by as usize),
     }
@@ -103,14 +103,14 @@ fn count(marks: &[u8]) -> u32 {
     marks.iter().filter(|&&mark| mark != 0).count() as u32
 }
 
-fn paint(w: usize, h: usize, buffers: &mut Buffers, column: usize, row: usize, word: u32) -> Answer {
+fn paint(w: usize, h: usize, buffers: &mut Buffers, position: (usize, usize), word: u32) -> Answer {
     let marks = &mut buffers.marks.part_mut()[..w * h];
-    if std::mem::replace(&mut buffers.picture.part_mut()[row * w + column], word) == word {
+    if std::mem::replace(&mut buffers.picture.part_mut()[position.1 * w + position.0], word) == word {
         return Answer::Unchanged { stale: count(marks) };
     }
-    for by in row.saturating_sub(5)..(row + 7).min(h) {
-        for bx in column.saturating_sub(6)..(column + 7).min(w) {
-            marks[by * w + bx] = 1;
+    for (at, mark) in marks.iter_mut().enumerate() {
+        if names(position, (at % w, at / w)) {
+            *mark = 1;
         }
     }
     Answer::Painted { stale: count(marks) }

@@ -28,6 +28,12 @@ pub enum Answer {
     Shown([u32; 9]),
 }
 
+/// Whether a changing paint at (column, row) makes block (bx, by) stale.
+pub fn names((column, row): (usize, usize), (bx, by): (usize, usize)) -> bool {
+    let (beside, below) = (bx.abs_diff(column), by as isize - row as isize);
+    (beside <= 6 && (-2..=3).contains(&below)) || (beside <= 3 && (-5..=6).contains(&below))
+}
+
 impl Machine {
     /// Every block is stale, every output word 0.
     pub fn open(w: usize, h: usize, picture: &[u32]) -> Machine {
@@ -72,14 +78,8 @@ impl Machine {
         }
         self.picture[at] = word;
         self.whole = None;
-        let (column, row) = ((at % self.w) as isize, (at / self.w) as isize);
         for (i, stale) in self.stale.iter_mut().enumerate() {
-            let (bx, by) = ((i % self.w) as isize, (i / self.w) as isize);
-            let wide = (column - 6..=column + 6).contains(&bx) && (row - 2..=row + 3).contains(&by);
-            let high = (column - 3..=column + 3).contains(&bx) && (row - 5..=row + 6).contains(&by);
-            if wide || high {
-                *stale = true;
-            }
+            *stale |= names((at % self.w, at / self.w), (i % self.w, i / self.w));
         }
         Answer::Painted { stale: self.stale_count() }
     }
