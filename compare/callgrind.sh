@@ -1,5 +1,6 @@
 #!/bin/bash
-# Instructions a pixel of the picture, at 64 a side, of the original and of the library. Needs valgrind; the counts repeat.
+# Instructions a pixel of the picture, at 64 a side, of the original and of the library; and those of one changed pixel, its paint
+# and its refresh, at 256 a side. Needs valgrind; the counts repeat.
 set -eu
 here=$(cd "$(dirname "$0")" && pwd)
 side=64
@@ -25,4 +26,9 @@ for call in scale scale9x; do
             printf "%-8s %-6s original %9.1f   library %9.1f instructions a pixel   library / original %.3f\n", c, p, a / n, b / n, b / a
         }'
     done
+done
+for picture in page noise; do
+    awk -v p="$picture" -v b="$(count "*change_pixel*" change "$picture" 256)" 'BEGIN {
+        printf "change   %-6s library %9.0f instructions for one changed pixel\n", p, b
+    }'
 done

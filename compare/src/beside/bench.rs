@@ -150,6 +150,7 @@ pub fn calls(words: &[&str]) -> Option<bool> {
         ("scale9x", true) => Buffers::nine(side * side).scale9x(&picture, side),
         ("scale", false) => drop(black_box(original_scale(&picture, side))),
         ("scale9x", false) => drop(black_box(original_scale9x(&picture, side))),
+        ("change", true) => bench_session::change(&picture, side),
         _ => return None,
     }
     Some(true)

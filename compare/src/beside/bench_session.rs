@@ -60,6 +60,21 @@ impl Session {
     fn paint(&mut self, column: usize, row: usize, word: u32) -> panel::Painted {
         panel::paint(self.header, &mut self.picture, &mut self.marks, column as u32, row as u32, word)
     }
+
+    /// A paint of another word, and a refresh of all that it makes stale. Never inlined, so that a profiler finds it.
+    #[inline(never)]
+    fn change_pixel(&mut self, column: usize, row: usize, word: u32) {
+        assert_eq!(self.paint(column, row, word).changed, 1);
+        assert_eq!(self.refresh_all().left, 0);
+    }
+}
+
+/// One changed pixel in the middle of a picture of which nothing is stale, to be run under a profiler.
+pub fn change(picture: &[u32], side: usize) {
+    let mut session = Session::open(picture, side);
+    assert_eq!(session.refresh_all().left, 0);
+    let middle = side / 2;
+    session.change_pixel(middle, middle, picture[middle * side + middle] ^ 0x00ff_ffff);
 }
 
 /// All marks in one byte: each is read once, as fast as the compiler can make it.
@@ -132,10 +147,7 @@ impl<'a> Bench<'a> {
         let changed = median((0..200).map(|i| {
             let (column, row) = (20 + 37 * i % 200, 20 + 53 * i % 200);
             let word = session.picture[row * side + column] ^ 0x00ff_ffff;
-            time(|| {
-                assert_eq!(session.paint(column, row, word).changed, 1);
-                assert_eq!(session.refresh_all().left, 0);
-            })
+            time(|| session.change_pixel(column, row, word))
         }));
         self.say("one changed pixel: paint, and refresh until none is stale", changed);
         self.equal_word(&mut session);
