@@ -6,7 +6,7 @@ use picture::place::saturating_sub;
 ghost use mathlib.Core.Path.{_≡_};
 ghost use mathlib.Core.Bool.{true};
 ghost use mathlib.Core.List.{[], _∷_};
-ghost use Prim.Native.Nat.{_+_, _*_, _<_, _≤_, min};
+ghost use Prim.Native.Nat.{_+_, _*_, _<_, _≤_};
 ghost use lib.ListN.{length, getD};
 ghost use Rattle.machine.specs.Lists.{count, stamp, setAll};
 ghost use Rattle.machine.specs.Calls.{isStale};
@@ -39,30 +39,18 @@ fn count_run(marks: &[u8], lo: usize, hi: usize) -> u8
     c
 }
 
-// Where the run of marks that is counted from i ends.
-fn run_end(i: usize, hi: usize) -> usize
-    requires { ⌜ i ≤ hi ⌝ }
-    ensures { λ r. ⌜ r ≡ min (i + 7 * 32) hi ⌝ }
-{
-    if hi - i < RUN {
-        return hi;
-    }
-    i + RUN
-}
-
-// How many of the marks lo to hi - 1 are stale.
+// How many of the marks lo to hi - 1 are stale: whole runs, of whose length the compiler knows, and then the rest.
 pub fn count_stale(marks: &[u8], lo: usize, hi: usize) -> u32
     requires { ⌜ (lo ≤ hi) × ((hi ≤ 2048 * 2048) × (hi ≤ length (now marks))) ⌝ }
     ensures { λ r. ⌜ r ≡ count (staleIn lo hi (now (marks .entry))) ⌝ }
 {
     let mut c: u32 = 0;
     let mut i = lo;
-    while i < hi {
-        let e = run_end(i, hi);
-        c += count_run(marks, i, e) as u32;
-        i = e;
+    while hi - i >= RUN {
+        c += count_run(marks, i, i + RUN) as u32;
+        i += RUN;
     }
-    c
+    c + count_run(marks, i, hi) as u32
 }
 
 // How many stale marks stand side by side from i on, itself one of them, as far as `most`.
