@@ -144,7 +144,7 @@ static void show_block(void)
     EXPECT(show(W, 2, words) == PANEL_OUTSIDE);
 }
 
-/* A paint, and a refresh of all that it made stale: columns 1 to 7 of rows 0 to 3, and columns 4 to 7 of rows 4 and 5. */
+/* A paint, and a refresh of all that it made stale: columns 1 to 7 of rows 0 to 3, columns 4 to 7 of rows 4 and 5. */
 static void change(void)
 {
     uint32_t refusal, stale, changed, drawn, left;
@@ -172,8 +172,8 @@ static void cursor(void)
     static const uint32_t at[PAINTS] = {10, 0, 31}, expected[PAINTS] = {120, 40, 33};
     uint32_t page_header[PANEL_HEADER_LEN], changed, stale, drawn, left;
 
-    EXPECT(panel_open(SIDE, SIDE, page, PANEL_PICTURE_LEN(SIDE, SIDE), enlarged, PANEL_OUTPUT_LEN(SIDE, SIDE), page_marks,
-                      PANEL_MARKS_LEN(SIDE, SIDE), page_header, &stale) == PANEL_NONE);
+    EXPECT(panel_open(SIDE, SIDE, page, PANEL_PICTURE_LEN(SIDE, SIDE), enlarged, PANEL_OUTPUT_LEN(SIDE, SIDE),
+                      page_marks, PANEL_MARKS_LEN(SIDE, SIDE), page_header, &stale) == PANEL_NONE);
     for (size_t i = 0; i < PAINTS; i++) {
         EXPECT(panel_refresh(page_header, page, PANEL_PICTURE_LEN(SIDE, SIDE), enlarged, PANEL_OUTPUT_LEN(SIDE, SIDE),
                              page_marks, PANEL_MARKS_LEN(SIDE, SIDE), UINT32_MAX, &drawn, &left) == PANEL_NONE);
