@@ -40,13 +40,13 @@
  *
  * Costs of a session. An opening writes the whole output, with 0, and all marks. A paint counts all marks once (wh
  * bytes are read), also where the word is equal; a changed pixel makes at most 120 blocks stale, a cross round it. A
- * refresh counts all marks once too; in slices of n, once for each slice. Blocks are drawn in tiles of up to 16 by 12,
- * each the rectangle round stale blocks, of which the stale ones are written; a tile's blocks share work, so a slice
- * that ends within a row of stale blocks costs more for each block than one that takes whole rows. Measured at 256 by
- * 256 (docs/PERFORMANCE.md of the repository), on a page of text and on noise: the first refresh of everything took a
- * little more than twice as long as panel_scale; one changed pixel, its paint and its refresh, took less than a
- * hundredth of panel_scale. So, where most of a page changes, do not paint every pixel: store the words in the picture
- * and open anew, which takes one opening and one refresh of everything.
+ * refresh reads all marks once too, those near stale blocks a few times; in slices of n, so does each slice. Blocks are
+ * drawn in tiles of up to 16 by 12, each the rectangle round stale blocks, of which the stale ones are written; a
+ * tile's blocks share work, so a slice that ends within a row of stale blocks costs more for each block than one that
+ * takes whole rows. Measured at 256 by 256 (docs/PERFORMANCE.md of the repository), on a page of text and on noise: the
+ * first refresh of everything took a little more than twice as long as panel_scale; one changed pixel, its paint and
+ * its refresh, took less than a hundredth of panel_scale. So, where most of a page changes, do not paint every pixel:
+ * store the words in the picture and open anew, which takes one opening and one refresh of everything.
  */
 #ifndef PANEL_H
 #define PANEL_H

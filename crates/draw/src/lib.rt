@@ -55,8 +55,8 @@ fn draw_band(
     stale
 }
 
-// The first n stale blocks drawn, and no longer stale. Answers how many were stale: each mark is counted once, on the way down or, below
-// the last block drawn, in one go.
+// The first n stale blocks drawn, and no longer stale. Answers how many were stale: the rows are counted on the way down, and what is
+// below the last band drawn in one go.
 pub fn draw_first(
     picture: &[u32],
     output: &mut [u32],

@@ -39,7 +39,7 @@ fn count_run(marks: &[u8], lo: usize, hi: usize) -> u8
     c
 }
 
-// How many of the marks lo to hi - 1 are stale: whole runs, of whose length the compiler knows, and then the rest.
+// How many of the marks lo to hi - 1 are stale: whole runs, whose length the compiler knows, and then the rest.
 pub fn count_stale(marks: &[u8], lo: usize, hi: usize) -> u32
     requires { ⌜ (lo ≤ hi) × ((hi ≤ 2048 * 2048) × (hi ≤ length (now marks))) ⌝ }
     ensures { λ r. ⌜ r ≡ count (staleIn lo hi (now (marks .entry))) ⌝ }

@@ -8,8 +8,8 @@ use Rattle.block.specs.Block.{blockOf}
 use Rattle.machine.specs.Screen.{Screen}
 use Rattle.marks.specs.Marks.{between}
 
--- the blocks that a changing paint at (column, row) names, before the picture's borders: bx within 6 of column and by from row - 2 to
--- row + 3, or bx within 3 and by from row - 5 to row + 6; a difference below 0 is 0
+-- section 7: the blocks that a changing paint at (column, row) names, before the picture's borders: bx within 6 of column and by from
+-- row - 2 to row + 3, or bx within 3 and by from row - 5 to row + 6; a difference below 0 is 0
 abbrev pub cross3 : ℕ → ℕ → ℕ → ℕ → Bool
 cross3 column row bx by =
     (between (column - 6) (column + 6) bx && between (row - 2) (row + 3) by)
