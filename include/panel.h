@@ -184,8 +184,9 @@ uint32_t panel_open(uint32_t w, uint32_t h,
 /*
  * Paints one pixel.
  *   picture   the word at (column, row) is written where it is another, its top byte counted
- *   marks     where the word was another, 1 is written at each block that it can alter: columns column-6 to
- *             column+6 and rows row-5 to row+6 inside the picture; else nothing
+ *   marks     where the word was another, 1 is written at each block (bx, by) inside the picture that it can alter,
+ *             which has bx within 6 of column and by from row-2 to row+3, or bx within 3 and by from row-5 to row+6;
+ *             else nothing
  *   *changed  1 where the word was another, 0 where it was equal; 0 beside a refusal
  *   *stale    the number of stale blocks after the call; 0 beside a refusal
  * Refusals, in this order: 1 the header's w or h past 2048; 2; 4 marks; 5 (column, row) outside the picture.

@@ -7,11 +7,22 @@ use lib.ListN.{length, take}
 use Rattle.machine.specs.Lists.{setAll, count}
 use Rattle.machine.specs.Screen.{Screen}
 use Rattle.machine.specs.Machine.{putAll}
+use Rattle.machine.specs.Lent.{Lent}
 use Rattle.machine.proofs.Lists.{length-setAll, setAll-two, firstFrom-length}
 use Rattle.machine.proofs.Good.{length-putAll, putAll-two}
 use Rattle.marks.specs.Marks.{staleIn, chosen}
 use Rattle.marks.proofs.Counts.{chosen-split, count-split, count-run-le, stale-after}
 use Rattle.draw.specs.Steps.{DrawsAll, Draws}
+
+-- buffers of the same lengths are lent as well
+pub lent-still : {S : Screen} {w h p o m o′ m′ : ℕ} → Lent S w h p o m → o′ ≡ o → m′ ≡ m → Lent S w h p o′ m′
+lent-still l e f = record {
+  wide = l .wide;
+  high = l .high;
+  for-picture = l .for-picture;
+  for-output = omega (arith, l .for-output, e);
+  for-marks = omega (arith, l .for-marks, f);
+}
 
 module _ (S : Screen) (w h : ℕ) (picture : List ℕ) where
   -- lists of blocks

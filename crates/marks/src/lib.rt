@@ -79,6 +79,9 @@ pub fn stale_end(marks: &[u8], lo: usize, hi: usize, n: u32) -> usize
     i
 }
 
+// The searches from here to `row_end` promise that what they leave out has no stale block. That they leave out all they can keeps tiles
+// small; what is drawn does not depend on it, so it is not promised.
+
 // How many marks are passed at a time where none is stale: as many as the compiler takes together.
 const STEP: usize = 32;
 

@@ -7,7 +7,7 @@ use lib.ListN.{length}
 use Rattle.machine.proofs.Places.{area}
 use Rattle.three.specs.Three.{screen3}
 use Rattle.three.proofs.Three.{lawful3}
-use Rattle.draw.proofs.Loops.{draws-output-length, draws-marks-length}
+use Rattle.draw.proofs.Loops.{lent-still, draws-output-length, draws-marks-length}
 use Rattle.draw.proofs.Bands.{End, end-of, band-all, band-part}
 use Rattle.draw.proofs.draw_band.Statement.{statement}
 use Rattle.draw.proofs.draw_band.Tie as tie
@@ -71,7 +71,8 @@ returns c =
     let a = s .args in
     let b = band-of s in
     let counted = c .before .before .before .before .before .before .before .before .count-stale .ensures in
-    band-all screen3 lawful3 (a .w) (a .h) (s .pre .1 .for-output) (b .up) (b .top) (b .marked) counted (c .before .before .before .before .before .before .before .if1 .taken) (c .before .before .before .before .draw-part .ensures)
+    band-all screen3 lawful3 (a .w) (a .h) (s .pre .1 .for-output) (b .up) (b .top) (b .marked) counted
+    (c .before .before .before .before .before .before .before .if1 .taken) (c .before .before .before .before .draw-part .ensures)
 
 stale-end-requires : tie.Need-stale-end-requires
 stale-end-requires c κs =
@@ -111,17 +112,11 @@ draw-part-requires-3 c κs =
     let s = c .before .before .before .before .before .before .before .before .before .before .before .before .before .before .before .before .before in
     let a = s .args in
     let i = s .pre .0 in
-    let p = s .pre .1 in
     let e = end-at (c .before .before .before .before .before .before .before .before .before) in
     let d = c .before .before .before .before .before .before .draw-part2 .ensures .draws in (
       (omega (arith, e .column), (omega arith, (omega (arith, e .to, i), omega arith))),
-      record {
-        wide = p .wide;
-        high = p .high;
-        for-picture = p .for-picture;
-        for-output = omega (arith, p .for-output, draws-output-length screen3 (a .w) (a .h) (a .picture .now) d);
-        for-marks = omega (arith, p .for-marks, draws-marks-length screen3 (a .w) (a .h) (a .picture .now) d);
-      },
+      lent-still (s .pre .1)
+          (draws-output-length screen3 (a .w) (a .h) (a .picture .now) d) (draws-marks-length screen3 (a .w) (a .h) (a .picture .now) d),
     )
 
 same-length-3 : tie.Need-same-length-3

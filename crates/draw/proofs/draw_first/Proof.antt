@@ -15,7 +15,7 @@ use Rattle.marks.specs.Marks.{staleIn, chosen}
 use Rattle.marks.proofs.Counts.{count-none, count-run-le, none-wanted, none-left, none-stale}
 use Rattle.three.specs.Three.{screen3}
 use Rattle.draw.specs.Steps.{Draws}
-use Rattle.draw.proofs.Loops.{first-none, first-few, first-more, draws-output-length, draws-marks-length}
+use Rattle.draw.proofs.Loops.{lent-still, first-none, first-few, first-more, draws-output-length, draws-marks-length}
 use Rattle.draw.proofs.draw_first.Statement.{statement}
 use Rattle.draw.proofs.draw_first.Tie as tie
 
@@ -111,13 +111,8 @@ draw-band-requires c κs =
     let e = c .before .before .least .ensures in
     let d = l .inv .1 .draws in (
       (omega (arith, e), (omega (arith, e), omega (arith, e))),
-      record {
-        wide = s .pre .wide;
-        high = s .pre .high;
-        for-picture = s .pre .for-picture;
-        for-output = omega (arith, s .pre .for-output, draws-output-length screen3 (a .w) (a .h) (a .picture .now) d);
-        for-marks = omega (arith, s .pre .for-marks, draws-marks-length screen3 (a .w) (a .h) (a .picture .now) d);
-      },
+      lent-still (s .pre)
+          (draws-output-length screen3 (a .w) (a .h) (a .picture .now) d) (draws-marks-length screen3 (a .w) (a .h) (a .picture .now) d),
     )
 
 add-stale : tie.Need-add-stale Inv-loop μ-loop

@@ -7,7 +7,7 @@ use lib.ListN.{length}
 use Rattle.marks.specs.Marks.{Inside}
 use Rattle.three.specs.Three.{screen3}
 use Rattle.draw.specs.Steps.{Swept}
-use Rattle.draw.proofs.Loops.{draws-output-length, draws-marks-length}
+use Rattle.draw.proofs.Loops.{lent-still, draws-output-length, draws-marks-length}
 use Rattle.draw.proofs.Swept.{swept-none}
 use Rattle.draw.proofs.Parts.{part-of, swept-columns}
 use Rattle.draw.proofs.part.draw_part.Statement.{statement}
@@ -59,13 +59,7 @@ draw-window-requires c κs =
         down = omega arith;
         few-rows = omega arith;
       },
-      record {
-        wide = p .wide;
-        high = p .high;
-        for-picture = p .for-picture;
-        for-output = omega (arith, p .for-output, l .inv .1);
-        for-marks = omega (arith, p .for-marks, l .inv .2);
-      },
+      lent-still p (l .inv .1) (l .inv .2),
     )
 
 first-column-requires-2 : tie.Need-first-column-requires-2 Inv-loop μ-loop

@@ -9,7 +9,7 @@ use Rattle.picture.specs.Fill.{add-one-mul}
 use Rattle.marks.specs.Marks.{Inside}
 use Rattle.three.specs.Three.{screen3}
 use Rattle.draw.specs.Steps.{Swept, RowTags}
-use Rattle.draw.proofs.Loops.{draws-output-length, draws-marks-length}
+use Rattle.draw.proofs.Loops.{lent-still, draws-output-length, draws-marks-length}
 use Rattle.draw.proofs.Swept.{swept-none}
 use Rattle.draw.proofs.Parts.{swept-rows}
 use Rattle.draw.proofs.tile.draw_rows.Statement.{statement}
@@ -46,13 +46,7 @@ draw-stale-requires c κs =
     let l = c .before .before .before .loop in
     let p = s .pre .1 in (
       subst (λ (f : ℕ). RowTags (a .w) (a .h) (a .picture .now) (a .x) (a .y + l .j) (a .k) f (a .tags .now)) (sym (l .inv .1)) (s .pre .0 .1 (l .j) (omega arith)),
-      record {
-        wide = p .wide;
-        high = p .high;
-        for-picture = p .for-picture;
-        for-output = omega (arith, p .for-output, l .inv .2);
-        for-marks = omega (arith, p .for-marks, l .inv .3);
-      },
+      lent-still p (l .inv .2) (l .inv .3),
     )
 
 add-from : tie.Need-add-from Inv-loop μ-loop

@@ -9,7 +9,7 @@ use Rattle.marks.specs.Marks.{staleIn, Inside}
 use Rattle.marks.proofs.Parts.{clear-row, run-one}
 use Rattle.three.specs.Three.{screen3}
 use Rattle.draw.specs.Steps.{Swept}
-use Rattle.draw.proofs.Loops.{draws-output-length, draws-marks-length}
+use Rattle.draw.proofs.Loops.{lent-still, draws-output-length, draws-marks-length}
 use Rattle.draw.proofs.Swept.{swept-none}
 use Rattle.draw.proofs.Parts.{swept-columns, run-swept}
 use Rattle.draw.proofs.Tagged.{tags-from}
@@ -117,13 +117,7 @@ draw-run-requires c κs =
     let p = s .pre .1 in
     let n = c .before .before .stale-run in (
       (n .ensures .some, tags-from (a .w) (a .h) (a .x) (a .y) (a .k) (a .from) (l .i) (n .result) (a .picture .now) (a .tags .now) (omega (arith, n .ensures .few)) (s .pre .0)),
-      record {
-        wide = p .wide;
-        high = p .high;
-        for-picture = p .for-picture;
-        for-output = omega (arith, p .for-output, l .inv .1);
-        for-marks = omega (arith, p .for-marks, l .inv .2);
-      },
+      lent-still p (l .inv .1) (l .inv .2),
     )
 
 add-i-2 : tie.Need-add-i-2 Inv-loop μ-loop
