@@ -1,1 +1,2 @@
+pub mod Trailers
 pub mod Files

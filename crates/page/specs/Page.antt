@@ -8,6 +8,7 @@ use lib.ListN.{length, take, drop}
 use Rattle.picture.specs.Fill.{put, flat}
 use Rattle.picture.specs.Refusal.{none, side, picture, trailer}
 use Rattle.page.specs.declared.PageRead.{PageRead}
+use Rattle.page.specs.declared.Trailer.{Trailer}
 
 -- the number that bytes hold, the lowest byte first
 abbrev pub littleEndian : List ℕ → ℕ
@@ -45,17 +46,20 @@ same (a ∷ s) [] = false
 unfoldable pub wordsFrom : ℕ → ℕ → List ℕ → List ℕ
 wordsFrom i n f = flat n (λ k. littleEndian (part (i + 4 * k) 4 f) ∷ [])
 
--- the page's words in row order; back leads from the file's end to the first
+-- the page's words in row order; back counts from the file's end to the first
 unfoldable pub pixels : List ℕ → List ℕ
 pixels f = wordsFrom (length f - back f) (width f * height f) f
 
--- refusal 8: under 12 bytes, last four bytes wrong, back wrong or past the file
-unfoldable pub broken : List ℕ → Bool
-broken f =
+-- a bad trailer, whatever stands before its page: under 12 bytes, last four bytes wrong, or back not 12 + 4wh
+unfoldable pub badTrailer : List ℕ → Bool
+badTrailer f =
     ltb (length f) 12
     || not (same (mark f) page)
     || not (eqb (back f) (12 + 4 * (width f * height f)))
-    || ltb (length f) (back f)
+
+-- refusal 8: a bad trailer, or back not the file's length, the page being longer or shorter than the file
+unfoldable pub broken : List ℕ → Bool
+broken f = badTrailer f || not (eqb (back f) (length f))
 
 -- refusal 1: a side above 2,048
 unfoldable pub wide : List ℕ → Bool
@@ -72,6 +76,7 @@ readRefusal f room =
 abbrev pub beside : ℕ → ℕ → ℕ
 beside refusal n = cond (eqb refusal none) n 0
 
+-- the reader's answer
 unfoldable pub readOf : List ℕ → ℕ → PageRead
 readOf f room = let n = readRefusal f room in record { refusal = n; w = beside n (width f); h = beside n (height f) }
 
@@ -83,3 +88,9 @@ pictureOf f before = cond (eqb (readRefusal f (length before)) none) (put 0 (pix
 pub record Reads (f before after : List ℕ) (r : PageRead) : Type 0 where
   pub answer : r ≡ readOf f (length before)
   pub buffer : after ≡ pictureOf f before
+
+-- What the trailer says by itself, whether or not its page is all of the file; no public contract cites it.
+unfoldable pub trailerOf : List ℕ → Trailer
+trailerOf f =
+    let n = cond (badTrailer f) trailer none in
+    record { refusal = n; w = beside n (width f); h = beside n (height f); back = beside n (back f) }

@@ -3,7 +3,8 @@ ghost use mathlib.Core.Path.{_≡_};
 ghost use Prim.Native.Nat.{_+_, _*_, _^_, _<_, _≤_};
 ghost use lib.ListN.{length};
 ghost use Rattle.picture.specs.Fill.{put};
-ghost use Rattle.page.specs.Page.{littleEndian, part, wordsFrom, readOf, Reads};
+ghost use Rattle.picture.specs.Refusal.{trailer};
+ghost use Rattle.page.specs.Page.{littleEndian, part, wordsFrom, trailerOf, readOf, Reads};
 use picture::refusal;
 
 // What reading a page answers: the refusal's number or 0, and the page's sides, 0 beside a refusal.
@@ -11,6 +12,14 @@ pub struct PageRead {
     pub refusal: u32,
     pub w: u32,
     pub h: u32,
+}
+
+// What a file's last twelve bytes say: refusal 8 or 0, and the page's sides and back, 0 beside a refusal.
+struct Trailer {
+    refusal: u32,
+    w: u32,
+    h: u32,
+    back: u32,
 }
 
 // The largest side.
@@ -45,6 +54,45 @@ fn word_at(file: &[u8], at: usize) -> u32
     low + 65536 * high
 }
 
+// The answer for a bad trailer.
+fn bad_trailer() -> Trailer
+    ensures { λ r. ⌜ r ≡ record { refusal = trailer; w = 0; h = 0; back = 0 } ⌝ }
+{
+    Trailer {
+        refusal: refusal::TRAILER,
+        w: 0,
+        h: 0,
+        back: 0,
+    }
+}
+
+// The trailer with which a file ends. Whether its page is all of the file is not asked here, so that the page that ends at a
+// place e of a longer file has the trailer of `&file[..e]`.
+fn trailer_of(file: &[u8]) -> Trailer
+    ensures { λ r. ⌜ r ≡ trailerOf (now (file .entry)) ⌝ }
+{
+    let n = file.len();
+    if n < 12 {
+        return bad_trailer();
+    }
+    if word_at(file, n - 4) != MARK {
+        return bad_trailer();
+    }
+    let w = half_at(file, n - 12);
+    let h = half_at(file, n - 10);
+    let back = word_at(file, n - 8);
+    // in 64 bits, where no product of two sides wraps
+    if (back as u64) != 12 + 4 * ((w as u64) * (h as u64)) {
+        return bad_trailer();
+    }
+    Trailer {
+        refusal: refusal::NONE,
+        w: w,
+        h: h,
+        back: back,
+    }
+}
+
 // A refusal's answer.
 fn refused(number: u32) -> PageRead
     ensures { λ r. ⌜ r ≡ record { refusal = number; w = 0; h = 0 } ⌝ }
@@ -56,51 +104,42 @@ fn refused(number: u32) -> PageRead
     }
 }
 
-// The answer, by the trailer alone and the room for the picture.
+// The answer, by the trailer, the file's length and the room for the picture.
 fn examined(file: &[u8], room: usize) -> PageRead
     ensures { λ r. ⌜ r ≡ readOf (now (file .entry)) room ⌝ }
 {
-    let n = file.len();
-    if n < 12 {
+    let page = trailer_of(file);
+    if page.refusal != refusal::NONE {
+        return refused(page.refusal);
+    }
+    // the page is all of the file: it starts at the first byte
+    if (page.back as usize) != file.len() {
         return refused(refusal::TRAILER);
     }
-    if word_at(file, n - 4) != MARK {
-        return refused(refusal::TRAILER);
-    }
-    let width = half_at(file, n - 12);
-    let height = half_at(file, n - 10);
-    let back = word_at(file, n - 8) as u64;
-    let count = (width as u64) * (height as u64);
-    if back != 12 + 4 * count {
-        return refused(refusal::TRAILER);
-    }
-    if (n as u64) < back {
-        return refused(refusal::TRAILER);
-    }
-    if width > SIDE {
+    if page.w > SIDE {
         return refused(refusal::SIDE);
     }
-    if height > SIDE {
+    if page.h > SIDE {
         return refused(refusal::SIDE);
     }
-    if (room as u64) < count {
+    if room < (page.w as usize) * (page.h as usize) {
         return refused(refusal::PICTURE);
     }
     PageRead {
         refusal: refusal::NONE,
-        w: width,
-        h: height,
+        w: page.w,
+        h: page.h,
     }
 }
 
-// The file's words from the place `at` on, into the first n of the picture.
-fn fill(file: &[u8], at: usize, picture: &mut [u32], n: usize)
-    requires { ⌜ (at + 4 * n ≤ length (now file)) × (n ≤ length (now picture)) ⌝ }
-    ensures { λ _. ⌜ now (picture .exit) ≡ put 0 (wordsFrom at n (now (file .entry))) (now (picture .entry)) ⌝ }
+// The file's first n words, into the first n of the picture.
+fn fill(file: &[u8], picture: &mut [u32], n: usize)
+    requires { ⌜ (4 * n ≤ length (now file)) × (n ≤ length (now picture)) ⌝ }
+    ensures { λ _. ⌜ now (picture .exit) ≡ put 0 (wordsFrom 0 n (now (file .entry))) (now (picture .entry)) ⌝ }
 {
     let mut i: usize = 0;
     while i < n {
-        picture[i] = word_at(file, at + 4 * i);
+        picture[i] = word_at(file, 4 * i);
         i += 1;
     }
 }
@@ -114,6 +153,6 @@ pub fn read_page(file: &[u8], picture: &mut [u32]) -> PageRead
         return page;
     }
     let n = (page.w as usize) * (page.h as usize);
-    fill(file, file.len() - (12 + 4 * n), picture, n);
+    fill(file, picture, n);
     page
 }

@@ -1,7 +1,7 @@
 -- `page::half_at` meets its contract. Assumes nothing.
 use native.Mathlib.Omega.{arith}
 use borrow.Author.Needs.{needs}
-use Rattle.page.proofs.Files.{half-of}
+use Rattle.page.proofs.Trailers.{half-of}
 use Rattle.page.proofs.half_at.Statement.{statement}
 use Rattle.page.proofs.half_at.Tie as tie
 

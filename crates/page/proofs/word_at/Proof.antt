@@ -1,7 +1,7 @@
 -- `page::word_at` meets its contract. Assumes nothing.
 use native.Mathlib.Omega.{arith}
 use borrow.Author.Needs.{needs}
-use Rattle.page.proofs.Files.{word-of}
+use Rattle.page.proofs.Trailers.{word-of}
 use Rattle.page.proofs.word_at.Statement.{statement}
 use Rattle.page.proofs.word_at.Tie as tie
 
