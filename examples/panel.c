@@ -228,17 +228,33 @@ static void nine(void)
     EXPECT(scale9x(PANEL_SIDE_9X + 1) == PANEL_SIDE && memcmp(twice, output9, sizeof twice) == 0);
 }
 
+/* A file that holds no page: the number is answered, the sides are 0, and the picture keeps its word. */
+static void no_page(const char *what, const uint8_t *file, size_t file_len)
+{
+    uint32_t refusal, w, h, word[1] = {0x00445566u};
+
+    refusal = panel_read_page(file, file_len, word, 1, &w, &h);
+    EXPECT(refusal == PANEL_TRAILER && w == 0 && h == 0 && word[0] == 0x00445566u);
+    printf("%s: refusal %" PRIu32 "\n", what, refusal);
+}
+
+/* A page is all of its file: with a byte less at either end, or with a second page behind it, there is none. */
 static void page(void)
 {
     static const uint8_t file[] = {0x33, 0x22, 0x11, 0x00, 1, 0, 1, 0, 16, 0, 0, 0, 0x50, 0x41, 0x47, 0x45};
+    uint8_t two[2 * sizeof file];
     uint32_t refusal, w, h, word[1];
 
     refusal = panel_read_page(file, sizeof file, word, 1, &w, &h);
     EXPECT(refusal == PANEL_NONE && w == 1 && h == 1 && word[0] == 0x00112233u);
     printf("page: refusal %" PRIu32 ", %" PRIu32 " by %" PRIu32 ", %08" PRIx32 "\n", refusal, w, h, word[0]);
-    refusal = panel_read_page(file, sizeof file - 1, word, 1, &w, &h);
-    EXPECT(refusal == PANEL_TRAILER && w == 0 && h == 0 && word[0] == 0x00112233u);
-    printf("page without its last byte: refusal %" PRIu32 "\n", refusal);
+    no_page("page without its last byte", file, sizeof file - 1);
+    no_page("page without its first byte", file + 1, sizeof file - 1);
+    memcpy(two, file, sizeof file);
+    memcpy(two + sizeof file, file, sizeof file);
+    no_page("two pages in one file", two, sizeof two);
+    no_page("page after a byte", two + sizeof file - 1, sizeof file + 1);
+    EXPECT(panel_read_page(two + sizeof file, sizeof file, word, 1, &w, &h) == PANEL_NONE);
 }
 
 static void numbers(void)

@@ -24,7 +24,7 @@
  *   5  the position is outside the picture
  *   6  the root's operand has its sign bit set, is infinite or is not a number
  *   7  the block is stale
- *   8  the file is under 12 bytes, its last four bytes are wrong, or its back is wrong or past the file
+ *   8  the file is under 12 bytes, its last four bytes are wrong, or its back is wrong: not 12 + 4wh, or not its length
  *
  * Where several hold, the first in the order 1, 2, 3, 4, 5, 7 is returned (panel_read_page: 8, 1, 2).
  *
@@ -59,8 +59,8 @@ extern "C" {
 #endif
 
 /* The version of this header: major * 10000 + minor * 100 + patch, and the three with points between. */
-#define PANEL_VERSION 200u
-#define PANEL_VERSION_STRING "0.2.0"
+#define PANEL_VERSION 300u
+#define PANEL_VERSION_STRING "0.3.0"
 
 /*
  * No call takes more bytes of stack than this. It is measured, not proved: examples/stack.c, with what memset of the C
@@ -226,7 +226,8 @@ uint32_t panel_show(const uint32_t header[PANEL_HEADER_LEN],
 /*
  * Reads a page file: pixels as little-endian words, then a trailer of 12 bytes at the end of the file: w and h, 16
  * bits each, and back, 32 bits, all little-endian, then the bytes 50 41 47 45 (hexadecimal). Back is the distance
- * from the end of the file to its first pixel, 12 + 4wh; bytes before that are ignored. The file may be of any length.
+ * from the end of the file to its first pixel. It has to be 12 + 4wh and file_len: the page starts at the first byte,
+ * and two pages in one file are refused.
  *   file     file_len bytes, read
  *   picture  wh words, written
  *   *w, *h   the sides; 0 and 0 beside a refusal

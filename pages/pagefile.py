@@ -17,7 +17,8 @@ SYSTEM_PYTHON = '/usr/bin/python3'  # the interpreter for which pages/install in
 # A refusal's number in words, as enlarge says it.
 REASONS = {
     1: 'a side is above 2,048',
-    8: 'this is no page: it is too short, or its last 12 bytes are not those of a page of its length',
+    8: 'this is no page: it is too short, or its last 12 bytes are not those of a page of its length, as where two pages '
+       'stand in one file',
     9: 'it is longer than 4,108 bytes, which is a page of 1,024 pixels',
 }
 
@@ -38,12 +39,11 @@ def read_page(data):
     if len(data) < TRAILER.size:
         raise Refused(8)
     width, height, back, mark = TRAILER.unpack(data[-TRAILER.size:])
-    if mark != MARK or back != TRAILER.size + 4 * width * height or back > len(data):
+    if mark != MARK or back != TRAILER.size + 4 * width * height or back != len(data):
         raise Refused(8)
     if width > SIDE or height > SIDE:
         raise Refused(1)
-    first = len(data) - back  # bytes before the first pixel are ignored, as page3x ignores them
-    return width, height, struct.unpack_from(f'<{width * height}I', data, first)
+    return width, height, struct.unpack_from(f'<{width * height}I', data)
 
 
 def write_page(picture):

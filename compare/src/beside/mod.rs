@@ -11,6 +11,7 @@ mod lent;
 mod machine;
 mod original;
 mod page;
+mod page_files;
 mod pair;
 mod pictures;
 mod random;

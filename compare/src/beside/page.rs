@@ -2,7 +2,7 @@
 
 use super::lent::Lent;
 use super::original;
-use super::pictures::KINDS;
+use super::page_files::{self, page};
 use super::random::Random;
 use crate::panel;
 use std::io::Write;
@@ -10,7 +10,7 @@ use std::path::{Path, PathBuf};
 use std::process::{Command, Stdio};
 
 /// The longest file that the program takes.
-const PROGRAM_LIMIT: usize = 4_108;
+pub const PROGRAM_LIMIT: usize = 4_108;
 
 // ---- the rules, read on their own
 
@@ -20,22 +20,22 @@ struct Page {
     words: Vec<u32>,
 }
 
-/// The page that a file holds, or the number of its refusal.
+/// The page that a file holds, or the number of its refusal. Back has to be 12 + 4wh and the file's length, so that what
+/// stands before the trailer is the page's pixels and nothing else.
 fn read(file: &[u8]) -> Result<Page, u32> {
-    let Some((front, trailer)) = file.split_last_chunk::<12>() else {
+    let Some((pixels, trailer)) = file.split_last_chunk::<12>() else {
         return Err(8);
     };
     let [w0, w1, h0, h1, b0, b1, b2, b3, magic @ ..] = *trailer;
     let (w, h) = (u16::from_le_bytes([w0, w1]), u16::from_le_bytes([h0, h1]));
     let back = u128::from(u32::from_le_bytes([b0, b1, b2, b3]));
-    let pixels = 4 * u128::from(w) * u128::from(h);
-    if magic != [0x50, 0x41, 0x47, 0x45] || back != 12 + pixels || back > file.len() as u128 {
+    let right = 12 + 4 * u128::from(w) * u128::from(h);
+    if magic != [0x50, 0x41, 0x47, 0x45] || back != right || back != file.len() as u128 {
         return Err(8);
     }
     if w > 2048 || h > 2048 {
         return Err(1);
     }
-    let pixels = &front[front.len() - pixels as usize..];
     let words = pixels.chunks_exact(4).map(|b| u32::from_le_bytes([b[0], b[1], b[2], b[3]])).collect();
     Ok(Page { w: usize::from(w), h: usize::from(h), words })
 }
@@ -56,112 +56,6 @@ fn text(file: &[u8]) -> String {
             }
             text
         }
-    }
-}
-
-// ---- the files
-
-fn trailer(w: u16, h: u16, back: u32) -> Vec<u8> {
-    let mut bytes = Vec::new();
-    bytes.extend(w.to_le_bytes());
-    bytes.extend(h.to_le_bytes());
-    bytes.extend(back.to_le_bytes());
-    bytes.extend([0x50, 0x41, 0x47, 0x45]);
-    bytes
-}
-
-fn any_bytes(random: &mut Random, len: usize) -> Vec<u8> {
-    (0..len).map(|_| random.next() as u8).collect()
-}
-
-/// A good file, with bytes before the page.
-fn page(random: &mut Random, w: u16, h: u16, before: usize) -> Vec<u8> {
-    let kind = random.below(KINDS.len());
-    let words = KINDS[kind].picture(random, usize::from(w), usize::from(h));
-    let mut file = any_bytes(random, before);
-    file.extend(words.iter().flat_map(|word| word.to_le_bytes()));
-    file.extend(trailer(w, h, (12 + 4 * words.len()) as u32));
-    file
-}
-
-/// Each bit of the trailer flipped, each end and each beginning cut off, and a byte more at either end.
-fn damaged(file: &[u8]) -> Vec<Vec<u8>> {
-    let mut files = Vec::new();
-    for bit in 0..96 {
-        let mut copy = file.to_vec();
-        let at = file.len() - 12 + bit / 8;
-        copy[at] ^= 1 << (bit % 8);
-        files.push(copy);
-    }
-    for cut in 0..=file.len() {
-        files.push(file[..cut].to_vec());
-        files.push(file[cut..].to_vec());
-    }
-    files.push([file, &[0x45]].concat());
-    files.push([&[0x45], file].concat());
-    files
-}
-
-/// Sides and backs at their borders, most without pixels.
-fn borders(random: &mut Random) -> Vec<Vec<u8>> {
-    let mut files = Vec::new();
-    for side in [0, 1, 2, 2047, 2048, 2049, 4096, 65535] {
-        files.push(page(random, side, 0, 0));
-        files.push(page(random, 0, side, 0));
-        files.push(page(random, 0, side, 5));
-        files.push(page(random, side, 1, 0));
-        files.push(page(random, 1, side, 3));
-    }
-    // 12 + 4wh is past 32 bits, and its low 32 bits are those of back
-    for (w, h) in [(32768, 32768), (65535, 65535), (65535, 16385), (40000, 30000)] {
-        files.push(trailer(w, h, 12u32.wrapping_add((4 * u64::from(w) * u64::from(h)) as u32)));
-    }
-    for back in [0, 8, 11, 12, 13, 16, 20, 28, 29, u32::MAX, 1 << 31] {
-        let mut file = any_bytes(random, 16);
-        file.extend(trailer(2, 2, back));
-        files.push(file);
-    }
-    // the longest that the program takes, and one byte more
-    for before in [0, 1] {
-        files.push(page(random, 32, 32, before));
-        files.push(page(random, 1024, 1, before));
-        files.push(page(random, 1, 1024, before));
-        files.push(page(random, 1, 1, PROGRAM_LIMIT - 16 + before));
-        files.push(any_bytes(random, PROGRAM_LIMIT + before));
-        files.push(page(random, 2049, 0, PROGRAM_LIMIT - 12 + before));
-    }
-    for len in 0..=24 {
-        files.push(any_bytes(random, len));
-        files.push(vec![0x50; len]);
-    }
-    files.push(page(random, 33, 33, 0));
-    files.push(page(random, 300, 200, 7));
-    files
-}
-
-fn any_file(random: &mut Random) -> Vec<u8> {
-    let (w, h) = (random.below(20) as u16, random.below(20) as u16);
-    let before = random.pick(&[0, 0, 0, 1, 2, 3, 4, 12, 40]);
-    let good = page(random, w, h, before);
-    match random.below(8) {
-        0 => any_bytes(random, before + 12),
-        1 => {
-            let mut file = any_bytes(random, before);
-            file.extend(trailer(random.word() as u16, random.word() as u16, random.word()));
-            file
-        }
-        2 => {
-            let mut file = good;
-            let at = random.below(file.len());
-            file[at] ^= 1 << random.below(8);
-            file
-        }
-        3 => [good, page(random, h, w, 0)].concat(),
-        4 => {
-            let long = w.max(h) * 4 + 1;
-            page(random, long, (1024 / long).max(1), before)
-        }
-        _ => good,
     }
 }
 
@@ -225,32 +119,26 @@ fn program() -> PathBuf {
 /// At least a count of files; true where nothing differs. The reproduction printed is the shortest file that differs.
 pub fn run(count: usize, seed: u64) -> bool {
     let mut random = Random::new(seed);
-    let mut files = borders(&mut random);
-    for (w, h, before) in [(1, 1, 0), (2, 3, 0), (3, 2, 5), (5, 4, 1), (0, 7, 0), (7, 0, 9)] {
-        files.extend(damaged(&page(&mut random, w, h, before)));
-    }
-    while files.len() < count {
-        files.push(any_file(&mut random));
-    }
+    let files = page_files::files(&mut random, count);
     let program = program();
     let mut found: Vec<(&[u8], String)> = Vec::new();
     for file in &files {
         found.extend(wrong(&mut random, &program, file).map(|text| (file.as_slice(), text)));
     }
-    let largest = page(&mut random, 2048, 2048, 1);
-    let largest = wrong_reader(&mut random, &largest, 2048 * 2048);
-    if let Some(text) = &largest {
+    let largest = page(&mut random, 2048, 2048);
+    let largest = [largest.as_slice(), &largest[1..]].map(|file| wrong_reader(&mut random, file, 2048 * 2048));
+    for text in largest.iter().flatten() {
         println!("2048 by 2048: {text}");
     }
     if let Some((file, text)) = found.iter().min_by_key(|(file, _)| file.len()) {
         let bytes: Vec<String> = file.iter().map(|byte| format!("{byte:02x}")).collect();
         println!("{}\n{text}", bytes.join(" "));
     }
+    let differences = found.len() + largest.iter().flatten().count();
     let good = files.iter().filter(|file| read(file).is_ok()).count();
     println!(
-        "page: {} files through the reader and the program, {good} of them good, and one of 2048 by 2048: {} differences",
-        files.len(),
-        found.len() + usize::from(largest.is_some())
+        "page: {} files through the reader and the program, {good} of them good, and 2048 by 2048 whole and cut: {differences} differences",
+        files.len()
     );
-    found.is_empty() && largest.is_none()
+    differences == 0
 }

@@ -57,7 +57,7 @@ badTrailer f =
     || not (same (mark f) page)
     || not (eqb (back f) (12 + 4 * (width f * height f)))
 
--- refusal 8: a bad trailer, or back not the file's length, the page being longer or shorter than the file
+-- refusal 8: a bad trailer, or back not the file's length: a single page is all of its file
 unfoldable pub broken : List ℕ → Bool
 broken f = badTrailer f || not (eqb (back f) (length f))
 

@@ -1,4 +1,4 @@
--- The paper's refusal numbers, by name. Definitions only; `src/refusal.rt` has the same names for the
+-- The refusal numbers, by name. Definitions only; `src/refusal.rt` has the same names for the
 -- code, and `numbers` there is proved to be `all`.
 use mathlib.Core.List.{List, [], _∷_}
 use Prim.Native.Nat.{ℕ}
@@ -35,7 +35,7 @@ operand = 6
 abbrev pub stale : ℕ
 stale = 7
 
--- a file under 12 bytes, its last four bytes wrong, back wrong or past the file
+-- a file under 12 bytes, its last four bytes wrong, or back wrong: not 12 + 4wh, or not the file's length
 abbrev pub trailer : ℕ
 trailer = 8
 

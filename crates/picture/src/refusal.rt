@@ -1,4 +1,4 @@
-// The paper's refusal numbers, by name; `specs/Refusal.antt` has the same names for the definitions.
+// The refusal numbers, by name; `specs/Refusal.antt` has the same names for the definitions.
 ghost use mathlib.Core.Path.{_≡_};
 ghost use Rattle.picture.specs.Refusal.{all};
 
@@ -18,7 +18,7 @@ pub const OUTSIDE: u32 = 5;
 pub const OPERAND: u32 = 6;
 // The block is stale.
 pub const STALE: u32 = 7;
-// A file under 12 bytes, its last four bytes wrong, back wrong or past the file.
+// A file under 12 bytes, its last four bytes wrong, or back wrong: not 12 + 4wh, or not the file's length.
 pub const TRAILER: u32 = 8;
 // A file longer than the program takes.
 pub const LONG: u32 = 9;
