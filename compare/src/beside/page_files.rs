@@ -111,7 +111,7 @@ fn borders(random: &mut Random) -> Vec<Vec<u8>> {
     for side in [0, 1, 2, 2047, 2048, 2049, 4096, 65535] {
         for (w, h) in [(side, 0), (0, side), (side, 1), (1, side)] {
             files.push(page(random, w, h));
-            files.push(page_after(random, 1 + random.below(5), w, h));
+            files.push(page_after(random, 5, w, h));
             files.push(page(random, w, h)[1..].to_vec());
         }
     }
