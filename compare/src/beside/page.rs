@@ -20,7 +20,7 @@ struct Page {
     words: Vec<u32>,
 }
 
-/// The page that a file holds, or the number of its refusal. Back has to be 12 + 4wh and the file's length, so that what
+/// The page that a file holds, or the number of its refusal. Back has to be 12 + 4wh and the file's length, so what
 /// stands before the trailer is the page's pixels and nothing else.
 fn read(file: &[u8]) -> Result<Page, u32> {
     let Some((pixels, trailer)) = file.split_last_chunk::<12>() else {
@@ -137,7 +137,7 @@ pub fn run(count: usize, seed: u64) -> bool {
     let differences = found.len() + largest.iter().flatten().count();
     let good = files.iter().filter(|file| read(file).is_ok()).count();
     println!(
-        "page: {} files through the reader and the program, {good} of them good, and 2048 by 2048 whole and cut: {differences} differences",
+        "page: {} files by reader and program, {good} of them good, and 2048 by 2048 whole and cut: {differences} differences",
         files.len()
     );
     differences == 0

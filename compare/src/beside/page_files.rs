@@ -87,7 +87,7 @@ fn led(random: &mut Random) -> Vec<Vec<u8>> {
     files
 }
 
-/// Backs near 2^32, most of them those of sides whose product is as large.
+/// Backs near 2^32, and those that sides of a large product give in 32 bits.
 fn far_backs(random: &mut Random) -> Vec<Vec<u8>> {
     let mut files = Vec::new();
     for less in 0..=20 {

@@ -1,6 +1,6 @@
 -- What a call promises, from its refusal and from what its parts do. Assumes nothing.
 use mathlib.Core.Path.{_≡_, refl, ap, _∙_}
-use mathlib.Core.Bool.{Bool, true, false, cond, _||_, not, true≢false}
+use mathlib.Core.Bool.{Bool, true, false, cond, not}
 use mathlib.Core.List.{List, [], _∷_, _++_}
 use Prim.Native.Nat.{ℕ, zero, suc, _+_, _-_, _*_, _≤_}
 use native.Mathlib.Nat.{mul-le-mul}
@@ -8,6 +8,7 @@ use native.Mathlib.Omega.{arith}
 use lib.Dec.{ltb}
 use lib.ListN.{length, getD, set, take, drop, replicate}
 use borrow.Author.Tests.{ne-eqb, eq-eqb, ltb-false}
+use Rattle.picture.proofs.Bools.{or-none}
 use Rattle.machine.specs.Lists.{stamp, setAll, count, first}
 use Rattle.machine.specs.Screen.{Screen, blockWords}
 use Rattle.machine.specs.Machine.{inside, names, putAll, blockAt}
@@ -34,10 +35,6 @@ passed true b c k l m n e = absurd (omega arith)
 passed false true c k l m n e = absurd (omega arith)
 passed false false true k l m n e = absurd (omega arith)
 passed false false false k l m n e = (refl, refl, refl, e)
-
-or-none : (a b : Bool) → (a || b) ≡ false → (a ≡ false) × (b ≡ false)
-or-none true b e = absurd (true≢false e)
-or-none false b e = (refl, e)
 
 sides : (side w h : ℕ) → sideLong side w h ≡ false → (w ≤ side) × (h ≤ side)
 sides side w h e = let s = or-none (ltb side w) (ltb side h) e in (ltb-false side w (s .0), ltb-false side h (s .1))

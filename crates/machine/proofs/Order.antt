@@ -1,7 +1,7 @@
 -- Blocks drawn, and marks cleared, by a list of blocks: what is left depends on which blocks the list has, and not on their order. Assumes nothing.
 use mathlib.Core.Path.{_≡_, refl, sym, ap, _∙_}
 use mathlib.Core.Logic.{_⊎_, inl, inr, ⊎-elim}
-use mathlib.Core.Bool.{Bool, true, false, cond, _||_, false≢true, or-true}
+use mathlib.Core.Bool.{Bool, true, false, cond, _||_, false≢true}
 use mathlib.Core.List.{List, [], _∷_, _++_}
 use Prim.Native.Nat.{ℕ, zero, suc, _+_, _*_, _≤_, _<_}
 use native.Mathlib.Nat.{not-suc-le-zero, le-of-suc-le-suc}
@@ -11,6 +11,7 @@ use lib.Dec.{eqb}
 use lib.ListN.{length, getD, set}
 use lib.Seq.{getD-set-other, ext-getD}
 use borrow.Author.Tests.{eq-eqb, ne-eqb, eqb-true}
+use Rattle.picture.proofs.Bools.{or-left, or-right}
 use Rattle.machine.specs.Lists.{table, setAll, has, count, firstFrom}
 use Rattle.machine.specs.Screen.{Screen, Lawful, blockWords}
 use Rattle.machine.specs.Machine.{putBlock, putAll}
@@ -19,12 +20,6 @@ use Rattle.machine.proofs.Lists.{or-cond, Below, length-setAll, first-n
 use Rattle.machine.proofs.Good.{spotOf, drawn, length-putBlock, length-putAll, put-at, put-past}
 
 -- ---- which indices a list has
-
-or-left : (a b : Bool) → a ≡ true → (a || b) ≡ true
-or-left a b e = ap (λ (t : Bool). t || b) e
-
-or-right : (a b : Bool) → b ≡ true → (a || b) ≡ true
-or-right a b e = ap (λ (t : Bool). a || t) e ∙ or-true a
 
 or-cases : (a b : Bool) → (a || b) ≡ true → (a ≡ true) ⊎ (b ≡ true)
 or-cases true b e = inl refl

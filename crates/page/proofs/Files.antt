@@ -9,11 +9,11 @@ use lib.Dec.{eqb, ltb}
 use lib.ListN.{length, set}
 use lib.Seq.{set-split}
 use borrow.Author.Tests.{lt-ltb, le-ltb, eq-eqb, ne-eqb, eqb-true, eqb-false, ltb-false, not-false}
+use Rattle.picture.proofs.Bools.{or-left, or-right, or-none}
 use Rattle.picture.specs.Fill.{put}
 use Rattle.picture.specs.Refusal.{none, side, picture, trailer}
 use Rattle.page.specs.Page.{width, height, back, mark, page, same, badTrailer, broken, wide, wordsFrom, pixels, readRefusal, beside, readOf, pictureOf, Reads}
 use Rattle.page.specs.declared.PageRead.{PageRead}
-use Rattle.page.proofs.Trailers.{or-left, or-right, or-false}
 
 -- one element stored
 pub set-put : (l : List ℕ) (i v : ℕ) → i < length l → set l i v ≡ put i (v ∷ []) l
@@ -80,12 +80,12 @@ not-refused f room e = go (broken f) (wide f) (ltb room (width f * height f)) re
     go false false false p q r z =
         let marks = ltb (length f) 12 || not (same (mark f) page) in
         let wrong = not (eqb (back f) (12 + 4 * (width f * height f))) in
-        let all = or-false (badTrailer f) (not (eqb (back f) (length f))) p in
-        let sides = or-false (ltb 2048 (width f)) (ltb 2048 (height f)) q in
+        let all = or-none (badTrailer f) (not (eqb (back f) (length f))) p in
+        let sides = or-none (ltb 2048 (width f)) (ltb 2048 (height f)) q in
         record {
           width-small = ltb-false 2048 (width f) (sides .0);
           height-small = ltb-false 2048 (height f) (sides .1);
-          back-right = eqb-true (back f) (12 + 4 * (width f * height f)) (not-false (eqb (back f) (12 + 4 * (width f * height f))) (or-false marks wrong (all .0) .1));
+          back-right = eqb-true (back f) (12 + 4 * (width f * height f)) (not-false (eqb (back f) (12 + 4 * (width f * height f))) (or-none marks wrong (all .0) .1));
           back-whole = eqb-true (back f) (length f) (not-false (eqb (back f) (length f)) (all .1));
           fits = ltb-false room (width f * height f) r;
         }

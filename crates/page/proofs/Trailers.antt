@@ -9,8 +9,9 @@ use lib.Dec.{eqb, ltb}
 use lib.ListN.{length, getD}
 use lib.Seq.{drop-cons}
 use borrow.Author.Tests.{lt-ltb, le-ltb, eq-eqb, ne-eqb, eqb-true, eqb-false}
+use Rattle.picture.proofs.Bools.{or-left, or-right}
 use Rattle.picture.specs.Refusal.{none, trailer}
-use Rattle.page.specs.Page.{littleEndian, part, width, height, back, mark, page, same, badTrailer, beside, trailerOf}
+use Rattle.page.specs.Page.{littleEndian, part, width, height, back, mark, page, same, badTrailer, trailerOf}
 use Rattle.page.specs.declared.Trailer.{Trailer}
 
 part-none : (i : ℕ) (f : List ℕ) → part i 0 f ≡ []
@@ -57,17 +58,6 @@ same-number (a ∷ s) (b ∷ t) e = by-test (eqb a b) refl e (λ q. same-number 
 spelled : (a b c d : ℕ) → a < 256 → b < 256 → c < 256 → d < 256 → a + 256 * (b + 256 * (c + 256 * (d + 256 * 0))) ≡ 0x45474150 → same (a ∷ b ∷ c ∷ d ∷ []) page ≡ true
 spelled a b c d ha hb hc hd e =
     rw (eq-eqb a 0x50 (omega arith), eq-eqb b 0x41 (omega arith), eq-eqb c 0x47 (omega arith), eq-eqb d 0x45 (omega arith))
-
-pub or-left : (a b : Bool) → a ≡ true → a || b ≡ true
-or-left a b e = rw e
-
-pub or-right : (a b : Bool) → b ≡ true → a || b ≡ true
-or-right true b e = refl
-or-right false b e = e
-
-pub or-false : (a b : Bool) → a || b ≡ false → (a ≡ false) × (b ≡ false)
-or-false true b e = absurd (true≢false e)
-or-false false b e = (refl, e)
 
 module _ (f : List ℕ) where
   -- each way to a bad trailer

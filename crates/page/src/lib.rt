@@ -66,8 +66,8 @@ fn bad_trailer() -> Trailer
     }
 }
 
-// The trailer with which a file ends. Whether its page is all of the file is not asked here, so that the page that ends at a
-// place e of a longer file has the trailer of `&file[..e]`.
+// The trailer with which a file ends; whether its page is all of the file is not asked. A page that ends at a place e of a
+// longer file has the trailer of `&file[..e]`.
 fn trailer_of(file: &[u8]) -> Trailer
     ensures { λ r. ⌜ r ≡ trailerOf (now (file .entry)) ⌝ }
 {
@@ -87,9 +87,9 @@ fn trailer_of(file: &[u8]) -> Trailer
     }
     Trailer {
         refusal: refusal::NONE,
-        w: w,
-        h: h,
-        back: back,
+        w,
+        h,
+        back,
     }
 }
 
