@@ -10,33 +10,54 @@ use lib.Arith.{digits-div, digits-mod}
 use lib.ListN.{length, getD, take, drop, replicate, take-append-drop}
 use lib.Seq.{take-at, drop-at, length-take-le, ext-getD}
 use borrow.Author.Tests.{eqb-true, eq-eqb, ltb-false}
+use Rattle.header.specs.declared.Rectangle.{Rectangle}
+use Rattle.header.specs.declared.Header.{Header}
+use Rattle.header.specs.Header.{locked, past, noLock, fresh, noHeader}
 use Rattle.machine.specs.Lists.{count}
 use Rattle.machine.specs.Screen.{Screen, Lawful, blockWords, place}
-use Rattle.machine.specs.Machine.{State, Call, Paint, Refresh, Show, Answer, Painted, inside, putAll, blockAt}
-use Rattle.machine.specs.Machine.{opened, store, redraw, step, after, answers}
-use Rattle.machine.specs.Calls.{sideLong, refusalAll, OpenEnd, openEnd, Paints, Refreshes, Shows}
-use Rattle.machine.specs.Demand3.{Buffers, Ran, none, paint, refresh, show, Trace, Further, byteOf, whole, started, left, Holds, Follows, Demand3}
+use Rattle.machine.specs.Machine.{State, Call, Paint, Refresh, Show, Lock, Answer, Painted, Locked, inside, putAll, blockAt}
+use Rattle.machine.specs.Machine.{opened, store, redraw, headerOf, relock, step, after, answers}
+use Rattle.machine.specs.Calls.{sideLong, refusalAll, OpenEnd, openEnd, Paints, Refreshes, Shows, Locks}
+use Rattle.machine.specs.Demand3.{Buffers, latest, Ran, none, paint, refresh, show, lock, Trace, Further, byteOf, whole, started, left, Holds, Follows, Demand3}
 use Rattle.machine.proofs.Places.{block-lt}
 use Rattle.machine.proofs.Lists.{length-bytes, bytes-replicate, count-replicate, first-replicate, count-cleared, length-table, getD-table, none-true}
-use Rattle.machine.proofs.Good.{Good, good-opened, good-store, good-redraw, good-same}
-use Rattle.machine.proofs.Held.{held, none-held, inside-of, stale-held, block-append, paint-held, refresh-held, show-held}
+use Rattle.machine.proofs.Good.{Good, good-opened, good-store, good-redraw, good-relock, good-same}
+use Rattle.machine.proofs.Held.{held, unmet, inside-of, stale-held, block-append, paint-held, refresh-held, show-held, lock-held}
 
 -- ---- the machine alone
 
 module _ (S : Screen) (L : Lawful S) (w h : ℕ) where
-  good-step : (c : Call) (s : State) → Good S w h s → Good S w h (step S w h c s .0)
-  good-step (Paint column row word) s g = by-inside (inside w h column row) refl (eqb word (getD (s .picture) (row * w + column) 0))
+  -- what holds of a state, and of it once the word is stored, holds after a paint
+  by-paint : (P : State → Type 0) (column row word : ℕ) (s : State) → P s → (column < w → row < h → P (store S w h column row word s))
+      → P (step S w h (Paint column row word) s .0)
+  by-paint P column row word s same stored =
+      by-tests (inside w h column row) refl (eqb word (getD (s .picture) (row * w + column) 0)) (locked (s .lock) column row)
     where
       t : State
       t = store S w h column row word s
 
-      by-inside : (b : Bool) → inside w h column row ≡ b → (u : Bool)
-          → Good S w h (cond {A = State × Answer} b (cond u (s, Painted 0 0 (count (s .stale))) (t, Painted 0 1 (count (t .stale)))) (s, Painted 5 0 0) .0)
-      by-inside false e u = g
-      by-inside true e true = g
-      by-inside true e false = let i = inside-of w h column row e in good-store S L w h column row word s (i .0) (i .1) g
+      by-tests : (b : Bool) → inside w h column row ≡ b → (u k : Bool)
+          → P
+          (cond {A = State × Answer} b
+          (cond u (s, Painted 0 0 (count (s .stale))) (cond k (s, Painted 11 0 0) (t, Painted 0 1 (count (t .stale))))) (s, Painted 5 0 0) .0)
+      by-tests false e u k = same
+      by-tests true e true k = same
+      by-tests true e false true = same
+      by-tests true e false false = let i = inside-of w h column row e in stored (i .0) (i .1)
+
+  -- what holds of a state, and of it with the rectangle locked, holds after a lock
+  by-lock : (P : State → Type 0) (r : Rectangle) (s : State) → P s → (past w h r ≡ false → P (relock r s)) → P (step S w h (Lock r) s .0)
+  by-lock P r s same locked = by-past (past w h r) refl
+    where
+      by-past : (p : Bool) → past w h r ≡ p → P (cond {A = State × Answer} p (s, Locked 10 noHeader) (relock r s, Locked 0 (headerOf w h (relock r s))) .0)
+      by-past true e = same
+      by-past false e = locked e
+
+  good-step : (c : Call) (s : State) → Good S w h s → Good S w h (step S w h c s .0)
+  good-step (Paint column row word) s g = by-paint (Good S w h) column row word s g (λ c r. good-store S L w h column row word s c r g)
   good-step (Refresh n) s g = good-redraw S L w h (min n (count (s .stale))) s g
   good-step (Show bx by) s g = g
+  good-step (Lock r) s g = by-lock (Good S w h) r s g (λ e. good-relock S L w h r s e g)
 
   pub good-after : (cs : List Call) (s : State) → Good S w h s → Good S w h (after S w h cs s)
   good-after [] s g = g
@@ -48,6 +69,9 @@ module _ (S : Screen) (L : Lawful S) (w h : ℕ) where
       let m = min n (count (s .stale)) in
       further-count n (redraw S w h m s) f ∙ omega (arith, count-cleared m (s .stale))
   further-count n s (show f) = further-count n s f
+  further-count n {k = k} s (lock {r = r} f) =
+      further-count n (step S w h (Lock r) s .0) f
+      ∙ ap (λ (l : List Bool). count l - k * n) (by-lock (λ t. t .stale ≡ s .stale) r s refl (λ e. refl))
 
   -- a block that is not stale
   block-drawn : (s : State) → Good S w h s → (bx by : ℕ) → bx < w → by < h → getD (s .stale) (by * w + bx) true ≡ false
@@ -99,25 +123,33 @@ module _ (S : Screen) (L : Lawful S) (w h : ℕ) where
 -- ---- a list of calls, from buffers that hold a state
 
 module _ (S : Screen) (L : Lawful S) (w h : ℕ) (sides : sideLong (S .side) w h ≡ false) (tp to tm : List ℕ) where
-  ran-held : {b e : Buffers} {cs : List Call} {rs : List Answer} → Ran S w h b cs rs e → (s : State) → Good S w h s → b ≡ held tp to tm s
-      → (e ≡ held tp to tm (after S w h cs s)) × (rs ≡ answers S w h cs s)
-  ran-held none s g q = (q, refl)
-  ran-held (paint {b = b} {column = column} {row = row} {word = word} {d = d} p r) s g q =
+  ran-held : {header last : Header} {b e : Buffers} {cs : List Call} {rs : List Answer} → Ran S header b cs rs last e → (s : State) → Good S w h s
+      → header ≡ headerOf w h s → b ≡ held tp to tm s
+      → (last ≡ headerOf w h (after S w h cs s)) × (e ≡ held tp to tm (after S w h cs s)) × (rs ≡ answers S w h cs s)
+  ran-held none s g a q = (a, q, refl)
+  ran-held (paint {column = column} {row = row} {word = word} {d = d} p r) s g a q =
       let t = paint-held S L w h sides tp to tm s g column row word d
-      (subst (λ (b : Buffers). Paints S w h (b .picture) (b .marks) column row word d) q p) in
+      (subst₂ (λ (k : Header) (b : Buffers). Paints S k (b .picture) (b .marks) column row word d) a q p) in
       let i = ran-held r (step S w h (Paint column row word) s .0) (good-step S L w h (Paint column row word) s g)
+      (a ∙ by-paint S L w h (λ t. headerOf w h s ≡ headerOf w h t) column row word s refl (λ c r. refl))
       (ap (λ (b : Buffers). record { picture = d .picture; output = b .output; marks = d .marks }) q ∙ ap (λ (t : Buffers × Answer). t .0) t) in
-      (i .0, ap₂ {C = List Answer} _∷_ (ap (λ (t : Buffers × Answer). t .1) t) (i .1))
-  ran-held (refresh {b = b} {n = n} {d = d} p r) s g q =
+      (i .0, i .1, ap₂ {C = List Answer} _∷_ (ap (λ (t : Buffers × Answer). t .1) t) (i .2))
+  ran-held (refresh {n = n} {d = d} p r) s g a q =
       let t = refresh-held S L w h sides tp to tm s g n d
-      (subst (λ (b : Buffers). Refreshes S w h (b .picture) (b .output) (b .marks) n d) q p) in
-      let i = ran-held r (step S w h (Refresh n) s .0) (good-step S L w h (Refresh n) s g)
+      (subst₂ (λ (k : Header) (b : Buffers). Refreshes S k (b .picture) (b .output) (b .marks) n d) a q p) in
+      let i = ran-held r (step S w h (Refresh n) s .0) (good-step S L w h (Refresh n) s g) a
       (ap (λ (b : Buffers). record { picture = b .picture; output = d .output; marks = d .marks }) q ∙ ap (λ (t : Buffers × Answer). t .0) t) in
-      (i .0, ap₂ {C = List Answer} _∷_ (ap (λ (t : Buffers × Answer). t .1) t) (i .1))
-  ran-held (show {bx = bx} {by = by} {d = d} p r) s g q =
-      let t = show-held S L w h sides tp to tm s g bx by d (subst (λ (b : Buffers). Shows S w h (b .output) (b .marks) bx by d) q p) in
-      let i = ran-held r s g q in
-      (i .0, ap₂ {C = List Answer} _∷_ t (i .1))
+      (i .0, i .1, ap₂ {C = List Answer} _∷_ (ap (λ (t : Buffers × Answer). t .1) t) (i .2))
+  ran-held (show {bx = bx} {by = by} {d = d} p r) s g a q =
+      let t = show-held S L w h sides tp to tm s g bx by d (subst₂ (λ (k : Header) (b : Buffers). Shows S k (b .output) (b .marks) bx by d) a q p) in
+      let i = ran-held r s g a q in
+      (i .0, i .1, ap₂ {C = List Answer} _∷_ t (i .2))
+  ran-held (lock {r = f} {d = d} p r) s g a q =
+      let t = lock-held S L w h sides tp to tm s g f d (subst (λ (k : Header). Locks S k f d) a p) in
+      let i = ran-held r (step S w h (Lock f) s .0) (good-step S L w h (Lock f) s g)
+      (ap (λ (k : Header). latest k d) a ∙ ap (λ (t : Header × Answer). t .0) t)
+      (q ∙ by-lock S L w h (λ t. held tp to tm s ≡ held tp to tm t) f s refl (λ e. refl)) in
+      (i .0, i .1, ap₂ {C = List Answer} _∷_ (ap (λ (t : Header × Answer). t .1) t) (i .2))
 
 -- ---- from the opening on
 
@@ -135,32 +167,32 @@ module _ (S : Screen) (L : Lawful S) (w h : ℕ) (b : Buffers) where
   abbrev keep : State → Buffers
   keep s = held (drop (w * h) (b .picture)) (drop (blockWords S * (w * h)) (b .output)) (drop (w * h) (b .marks)) s
 
-  module _ {stale : ℕ} {cs : List Call} {rs : List Answer} {e : Buffers} (t : Trace S w h b stale cs rs e) where
+  module _ {stale : ℕ} {cs : List Call} {rs : List Answer} {last : Header} {e : Buffers} (t : Trace S w h b stale cs rs last e) where
     done : OpenEnd
     done = record {
       output = replicate (blockWords S * (w * h)) 0 ++ drop (blockWords S * (w * h)) (b .output);
       marks = replicate (w * h) 1 ++ drop (w * h) (b .marks);
       refusal = 0;
-      width = w;
-      height = h;
+      header = fresh w h;
       stale = w * h;
     }
 
     refused : ℕ
-    refused = refusalAll (S .side) (blockWords S) w h (length (b .picture)) (length (b .output)) (length (b .marks))
+    refused = refusalAll (S .side) (blockWords S) (fresh w h) (length (b .picture)) (length (b .output)) (length (b .marks))
 
     opening : (refused ≡ 0)
-        × (_≡_ {A = OpenEnd} (record { output = t .output; marks = t .marks; refusal = 0; width = t .width; height = t .height; stale = stale }) done)
+        × (_≡_ {A = OpenEnd} (record { output = t .output; marks = t .marks; refusal = 0; header = t .header; stale = stale }) done)
     unfolding done refused openEnd
     opening =
-        accepted refused (record { output = t .output; marks = t .marks; refusal = 0; width = t .width; height = t .height; stale = stale }) done
-        (record { output = b .output; marks = b .marks; refusal = refused; width = 0; height = 0; stale = 0 }) refl (t .opens .is) refl
+        accepted refused (record { output = t .output; marks = t .marks; refusal = 0; header = t .header; stale = stale }) done
+        (record { output = b .output; marks = b .marks; refusal = refused; header = noHeader; stale = 0 }) refl (t .opens .is) refl
 
     sizes : (sideLong (S .side) w h ≡ false) × (w * h ≤ length (b .picture))
     unfolding refused
     sizes =
-        let n = none-held (sideLong (S .side) w h) (ltb (length (b .picture)) (w * h)) (ltb (length (b .output)) (blockWords S * (w * h))) (ltb (length (b .marks)) (w * h)) (opening .0) in
-        (n .0, ltb-false (length (b .picture)) (w * h) (n .1))
+        let f = unmet (sideLong (S .side) w h) 0 _ (opening .0) in
+        let n = unmet (ltb (length (b .picture)) (w * h)) 1 _ (unmet (past w h noLock) 9 _ (f .1) .1) in
+        (f .0, ltb-false (length (b .picture)) (w * h) (n .0))
 
     start : _≡_ {A = Buffers} (record { picture = b .picture; output = t .output; marks = t .marks }) (keep (started S w h b))
     unfolding done
@@ -179,23 +211,21 @@ module _ (S : Screen) (L : Lawful S) (w h : ℕ) (b : Buffers) where
     good-met : Good S w h met
     good-met = good-after S L w h cs (started S w h b) good-started
 
-    more : {cs : List Call} {rs : List Answer} {b′ e′ : Buffers} → Ran S w h b′ cs rs e′ → (s : State) → Good S w h s → b′ ≡ keep s
-        → (e′ ≡ keep (after S w h cs s)) × (rs ≡ answers S w h cs s)
-    more r s g q = ran-held S L w h (sizes .0) (drop (w * h) (b .picture)) (drop (blockWords S * (w * h)) (b .output)) (drop (w * h) (b .marks)) r s g q
+    more : {cs : List Call} {rs : List Answer} {header last′ : Header} {b′ e′ : Buffers} → Ran S header b′ cs rs last′ e′ → (s : State) → Good S w h s
+        → header ≡ headerOf w h s → b′ ≡ keep s
+        → (last′ ≡ headerOf w h (after S w h cs s)) × (e′ ≡ keep (after S w h cs s)) × (rs ≡ answers S w h cs s)
+    more r s g a q = ran-held S L w h (sizes .0) (drop (w * h) (b .picture)) (drop (blockWords S * (w * h)) (b .output)) (drop (w * h) (b .marks)) r s g a q
 
-    ended : (e ≡ keep met) × (rs ≡ answers S w h cs (started S w h b))
+    ended : (last ≡ headerOf w h met) × (e ≡ keep met) × (rs ≡ answers S w h cs (started S w h b))
     unfolding done
-    ended =
-        more
-        (subst₂ (λ (x y : ℕ). Ran S x y (record { picture = b .picture; output = t .output; marks = t .marks }) cs rs e)
-        (ap (λ (d : OpenEnd). d .width) (opening .1)) (ap (λ (d : OpenEnd). d .height) (opening .1)) (t .ran))
-        (started S w h b) good-started start
+    ended = more (t .ran) (started S w h b) good-started (ap (λ (d : OpenEnd). d .header) (opening .1)) start
 
     bytes-met : length (map byteOf (met .stale)) ≡ w * h
     bytes-met = length-bytes (met .stale) ∙ good-met .stale-length
 
-    holds : Holds S w h met b e
-    holds = subst (Holds S w h met b) (sym (ended .0)) (record {
+    holds : Holds S w h met b last e
+    holds = subst (Holds S w h met b last) (sym (ended .1)) (record {
+      header-same = ended .0;
       picture-same = take-at (met .picture) (drop (w * h) (b .picture)) (w * h) (good-met .picture-length);
       output-same = take-at (met .output) (drop (blockWords S * (w * h)) (b .output)) (blockWords S * (w * h)) (good-met .output-length);
       marks-same = take-at (map byteOf (met .stale)) (drop (w * h) (b .marks)) (w * h) bytes-met;
@@ -208,12 +238,12 @@ module _ (S : Screen) (L : Lawful S) (w h : ℕ) (b : Buffers) where
     left-of s g e q = ap (left S w h) q ∙ ap count (stale-held S w h s g (drop (w * h) (b .marks)))
 
     left-met : left S w h e ≡ count (met .stale)
-    left-met = left-of met good-met e (ended .0)
+    left-met = left-of met good-met e (ended .1)
 
     block-met : (bx by : ℕ) → bx < w → by < h → getD (met .stale) (by * w + bx) true ≡ false
         → blockAt S w h bx by (e .output) ≡ S .draw w h (take (w * h) (e .picture)) bx by
     block-met bx by x y f =
-        ap (λ (l : Buffers). blockAt S w h bx by (l .output)) (ended .0)
+        ap (λ (l : Buffers). blockAt S w h bx by (l .output)) (ended .1)
         ∙ block-append S L w h (drop (blockWords S * (w * h)) (b .output)) met good-met bx by x y
         ∙ block-drawn S L w h met good-met bx by x y f
         ∙ ap (λ (p : List ℕ). S .draw w h p bx by) (sym (holds .picture-same))
@@ -221,18 +251,18 @@ module _ (S : Screen) (L : Lawful S) (w h : ℕ) (b : Buffers) where
     picture-met : length (take (w * h) (e .picture)) ≡ w * h
     picture-met = ap length (holds .picture-same) ∙ good-met .picture-length
 
-    follows : Follows S w h b stale cs rs e
+    follows : Follows S w h b stale cs rs last e
     unfolding done
     follows = record {
       same-count = ap (λ (d : OpenEnd). d .stale) (opening .1) ∙ sym (count-replicate (w * h));
-      same-answers = ended .1;
+      same-answers = ended .2;
       same-state = holds;
       blocks = λ bx by x y f. (
         block-met bx by x y f ∙ sym (whole-drawn S L w h (take (w * h) (e .picture)) picture-met bx by x y),
         block-met bx by x y f,
       );
-      counts-down = λ n k cs′ rs′ e′ f r.
-          left-of (after S w h cs′ met) (good-after S L w h cs′ met good-met) e′ (more r met good-met (ended .0) .0)
+      counts-down = λ n k cs′ rs′ last′ e′ f r.
+          left-of (after S w h cs′ met) (good-after S L w h cs′ met good-met) e′ (more r met good-met (ended .0) (ended .1) .1)
           ∙ further-count S L w h n met f ∙ ap (λ (c : ℕ). c - k * n) (sym left-met);
     }
 
@@ -248,8 +278,8 @@ every S L = record {
 }
 
 -- a list that ends with nothing stale holds the present picture enlarged whole
-pub ended-whole : (S : Screen) → Lawful S → {w h stale : ℕ} {b e : Buffers} {cs : List Call} {rs : List Answer} → Trace S w h b stale cs rs e
-    → left S w h e ≡ 0 → take (blockWords S * (w * h)) (e .output) ≡ whole S w h (take (w * h) (e .picture))
+pub ended-whole : (S : Screen) → Lawful S → {w h stale : ℕ} {b e : Buffers} {cs : List Call} {rs : List Answer} {last : Header}
+    → Trace S w h b stale cs rs last e → left S w h e ≡ 0 → take (blockWords S * (w * h)) (e .output) ≡ whole S w h (take (w * h) (e .picture))
 ended-whole S L {w} {h} {stale} {b} {e} t z =
     let p : List ℕ = take (w * h) (e .picture) in
     let l = picture-met S L w h b t in

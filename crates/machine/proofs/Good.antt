@@ -1,5 +1,5 @@
--- What every state of the machine keeps: the lengths, and each block that is not stale shows its words, drawn from the present picture. It holds of the
--- three ways in which a state comes about, `opened`, `store` and `redraw`, on every lawful screen. Assumes nothing.
+-- What every state of the machine keeps: the lengths, a lock inside the picture, and each block that is not stale shows its words, drawn from the present
+-- picture. It holds of the four ways in which a state comes about, `opened`, `store`, `redraw` and `relock`, on every lawful screen. Assumes nothing.
 use mathlib.Core.Path.{_≡_, refl, sym, ap, ap₂, _∙_, subst}
 use mathlib.Core.Logic.{_≢_}
 use mathlib.Core.Bool.{Bool, true, false, cond, _&&_, true≢false, false≢true}
@@ -12,9 +12,11 @@ use lib.Dec.{ltb, eqb}
 use lib.ListN.{length, getD, set, length-set, length-replicate, getD-replicate}
 use lib.Seq.{getD-set-same, getD-set-other, ext-getD}
 use borrow.Author.Tests.{lt-ltb, eq-eqb, ne-eqb}
+use Rattle.header.specs.declared.Rectangle.{Rectangle}
+use Rattle.header.specs.Header.{past}
 use Rattle.machine.specs.Lists.{stamp, setAll, count, first}
 use Rattle.machine.specs.Screen.{Screen, Lawful, blockWords, place}
-use Rattle.machine.specs.Machine.{State, opened, store, redraw, names, putWords, putBlock, putAll}
+use Rattle.machine.specs.Machine.{State, opened, store, redraw, relock, names, putWords, putBlock, putAll}
 use Rattle.machine.proofs.Places.{column-lt, row-lt, block-same, spot-lt, spot-same, spot-onto, digits-same}
 use Rattle.machine.proofs.Lists.{Below, length-stamp, getD-stamp, length-setAll, first-below, none-true}
 
@@ -46,6 +48,7 @@ module _ (S : Screen) (w h : ℕ) where
     pub stale-length : length (s .stale) ≡ w * h
     pub output-length : length (s .output) ≡ blockWords S * (w * h)
     pub shown : Shown (s .picture) (s .stale) (s .output)
+    pub lock-inside : past w h (s .lock) ≡ false
 
   pub length-putWords : (bx by k : ℕ) (xs out : List ℕ) → length (putWords S w h bx by k xs out) ≡ length out
   length-putWords bx by k [] out = refl
@@ -151,14 +154,16 @@ module _ (S : Screen) (L : Lawful S) (w h : ℕ) where
       shown-all picture bs (set stale b false) (putBlock S w h picture b output) (l .1) (length-putBlock S w h picture b output ∙ ol)
       (shown-one picture stale output b (l .0) ol good)
 
-  -- ---- the three ways
+  -- ---- the four ways
 
   pub good-opened : (picture : List ℕ) → length picture ≡ w * h → Good S w h (opened S w h picture)
+  unfolding past
   good-opened picture l = record {
     picture-length = l;
     stale-length = length-replicate (w * h) true;
     output-length = length-replicate (blockWords S * (w * h)) 0;
     shown = λ b k m e u. absurd (true≢false (sym (getD-replicate (w * h) b true true m) ∙ e));
+    lock-inside = refl;
   }
 
   pub good-store : (column row word : ℕ) (s : State) → column < w → row < h → Good S w h s → Good S w h (store S w h column row word s)
@@ -167,6 +172,7 @@ module _ (S : Screen) (L : Lawful S) (w h : ℕ) where
     stale-length = length-stamp 0 (names S w h column row) true (s .stale) ∙ g .stale-length;
     output-length = g .output-length;
     shown = still;
+    lock-inside = g .lock-inside;
   }
     where
       painted : List ℕ
@@ -200,7 +206,17 @@ module _ (S : Screen) (L : Lawful S) (w h : ℕ) where
         stale-length = length-setAll bs false (s .stale) ∙ g .stale-length;
         output-length = length-putAll S w h (s .picture) bs (s .output) ∙ g .output-length;
         shown = shown-all (s .picture) bs (s .stale) (s .output) low (g .output-length) (g .shown);
+        lock-inside = g .lock-inside;
       }
+
+  pub good-relock : (r : Rectangle) (s : State) → past w h r ≡ false → Good S w h s → Good S w h (relock r s)
+  good-relock r s e g = record {
+    picture-length = g .picture-length;
+    stale-length = g .stale-length;
+    output-length = g .output-length;
+    shown = g .shown;
+    lock-inside = e;
+  }
 
   -- ---- what it gives: with nothing stale the picture decides the output
 

@@ -10,13 +10,16 @@ use lib.ListN.{length, getD, set, take, replicate, length-append, length-set, Li
 use lib.Seq.{set-append-left, take-at}
 use borrow.Author.Tests.{le-ltb, ltb-true}
 use Rattle.picture.specs.Fill.{getD-any}
+use Rattle.header.specs.declared.Rectangle.{Rectangle}
+use Rattle.header.specs.declared.Header.{Header}
+use Rattle.header.specs.Header.{locked, past, withLock, noHeader}
 use Rattle.machine.specs.Lists.{stamp, setAll, count, first}
 use Rattle.machine.specs.Screen.{Screen, Lawful, blockWords, place}
-use Rattle.machine.specs.Machine.{State, Paint, Refresh, Show, Answer, Painted, Refreshed, Shown, inside, names, putWords, putBlock, putAll, blockAt}
-use Rattle.machine.specs.Machine.{store, redraw, step}
-use Rattle.machine.specs.Calls.{isStale, staleOf, sideLong, refusalAll, refusalPaint, refusalShow, PaintEnd, RefreshEnd, ShowEnd}
-use Rattle.machine.specs.Calls.{paintEnd, refreshEnd, showEnd, Paints, Refreshes, Shows}
-use Rattle.machine.specs.Demand3.{Buffers, byteOf}
+use Rattle.machine.specs.Machine.{State, Paint, Refresh, Show, Lock, Answer, Painted, Refreshed, Shown, Locked, inside, names, putWords, putBlock, putAll, blockAt}
+use Rattle.machine.specs.Machine.{store, redraw, headerOf, relock, step}
+use Rattle.machine.specs.Calls.{isStale, staleOf, sideLong, refusalAll, refusalPaint, refusalShow, PaintEnd, RefreshEnd, ShowEnd, LockEnd}
+use Rattle.machine.specs.Calls.{paintEnd, refreshEnd, showEnd, lockEnd, Paints, Refreshes, Shows, Locks}
+use Rattle.machine.specs.Demand3.{Buffers, byteOf, latest}
 use Rattle.machine.proofs.Places.{block-lt, spot-lt}
 use Rattle.machine.proofs.Lists.{Below, stamp-append, length-bytes, stale-bytes, getD-bytes, stamp-bytes, setAll-append, setAll-bytes}
 use Rattle.machine.proofs.Lists.{first-below, table-same}
@@ -24,18 +27,14 @@ use Rattle.machine.proofs.Good.{Good, good-store, good-redraw, length-p
 
 -- ---- refusals, from the tests' values
 
-none-of : (a b c d : Bool) → a ≡ false → b ≡ false → c ≡ false → d ≡ false → cond {A = ℕ} a 1 (cond b 2 (cond c 3 (cond d 4 0))) ≡ 0
-none-of a b c d e f g k = rw (e, f, g, k)
+-- no refusal: the first condition does not hold, and what follows it is none either
+pub unmet : (a : Bool) (n x : ℕ) → cond a (suc n) x ≡ 0 → (a ≡ false) × (x ≡ 0)
+unmet true n x e = absurd (omega arith)
+unmet false n x e = (refl, e)
 
-past-sizes : (a b c : Bool) (l m n : ℕ) (x : ℕ) → a ≡ false → b ≡ false → c ≡ false → cond a l (cond b m (cond c n x)) ≡ x
-past-sizes a b c l m n x e f g = rw (e, f, g)
-
-pub none-held : (a b c d : Bool) → cond {A = ℕ} a 1 (cond b 2 (cond c 3 (cond d 4 0))) ≡ 0 → (a ≡ false) × (b ≡ false) × (c ≡ false) × (d ≡ false)
-none-held true b c d e = absurd (omega arith)
-none-held false true c d e = absurd (omega arith)
-none-held false false true d e = absurd (omega arith)
-none-held false false false true e = absurd (omega arith)
-none-held false false false false e = (refl, refl, refl, refl)
+-- two conditions that do not hold, and then what follows them
+beyond : (a b : Bool) (l m x : ℕ) → a ≡ false → b ≡ false → cond a l (cond b m x) ≡ x
+beyond a b l m x e f = rw (e, f)
 
 and-false : (a b : Bool) → a ≡ false → (a && b) ≡ false
 and-false true b e = absurd (true≢false e)
@@ -108,17 +107,29 @@ module _ (S : Screen) (L : Lawful S) (w h : ℕ) (sides : sideLong (S .side) w h
   abbrev turned : State × Answer → Buffers × Answer
   turned t = (held tp to tm (t .0), t .1)
 
-  refusal-none : refusalAll (S .side) (blockWords S) w h (length (s .picture ++ tp)) (length (s .output ++ to)) (length (bytes s ++ tm)) ≡ 0
-  refusal-none =
-      none-of (sideLong (S .side) w h) (ltb (length (s .picture ++ tp)) (w * h)) (ltb (length (s .output ++ to)) (blockWords S * (w * h)))
-      (ltb (length (bytes s ++ tm)) (w * h)) sides (picture-long S w h s g tp) (output-long S w h s g to) (marks-long S w h s g tm)
+  abbrev header : Header
+  header = headerOf w h s
 
-  pub paint-held : (column row word : ℕ) (d : PaintEnd) → Paints S w h (s .picture ++ tp) (bytes s ++ tm) column row word d
+  -- the header is not refused
+  header-taken : (x : ℕ) → cond (sideLong (S .side) w h) 1 (cond (past w h (s .lock)) 10 x) ≡ x
+  header-taken x = beyond (sideLong (S .side) w h) (past w h (s .lock)) 1 10 x sides (g .lock-inside)
+
+  refusal-none : refusalAll (S .side) (blockWords S) header (length (s .picture ++ tp)) (length (s .output ++ to)) (length (bytes s ++ tm)) ≡ 0
+  refusal-none =
+      let m : ℕ = cond (ltb (length (bytes s ++ tm)) (w * h)) 4 0 in
+      let o : ℕ = cond (ltb (length (s .output ++ to)) (blockWords S * (w * h))) 3 m in
+      header-taken (cond (ltb (length (s .picture ++ tp)) (w * h)) 2 o)
+      ∙ beyond (ltb (length (s .picture ++ tp)) (w * h)) (ltb (length (s .output ++ to)) (blockWords S * (w * h))) 2 3 m (picture-long S w h s g tp)
+      (output-long S w h s g to)
+      ∙ ap (λ (t : Bool). cond {A = ℕ} t 4 0) (marks-long S w h s g tm)
+
+  pub paint-held : (column row word : ℕ) (d : PaintEnd) → Paints S header (s .picture ++ tp) (bytes s ++ tm) column row word d
       → _≡_ {A = Buffers × Answer}
       (record { picture = d .picture; output = s .output ++ to; marks = d .marks }, Painted (d .refusal) (d .changed) (d .stale))
       (turned (step S w h (Paint column row word) s))
   unfolding paintEnd
-  paint-held column row word d q = ap turn (q .is) ∙ ap (λ (r : ℕ). turn (choice r (eqb word (getD P at 0)))) sized ∙ by-inside (inside w h column row) refl
+  paint-held column row word d q =
+      ap turn (q .is) ∙ ap (λ (r : ℕ). turn (choice r (eqb word (getD P at 0)))) sized ∙ by-inside (inside w h column row) refl
     where
       at : ℕ
       at = row * w + column
@@ -146,15 +157,27 @@ module _ (S : Screen) (L : Lawful S) (w h : ℕ) (sides : sideLong (S .side) w h
       choice : ℕ → Bool → PaintEnd
       choice r u = cond (eqb r 0) (cond u unchanged stored) (record { picture = P; marks = M; refusal = r; changed = 0; stale = 0 })
 
-      sized : refusalPaint (S .side) w h (length P) (length M) column row ≡ cond (inside w h column row) 0 5
-      sized =
-          past-sizes (sideLong (S .side) w h) (ltb (length P) (w * h)) (ltb (length M) (w * h)) 1 2 4 (cond (inside w h column row) 0 5)
-          sides (picture-long S w h s g tp) (marks-long S w h s g tm)
+      K : Bool
+      K = locked (s .lock) column row
 
-      by-word : column < w → row < h → (u : Bool)
-          → turn (cond u unchanged stored) ≡ turned (cond u (s, Painted 0 0 (count (s .stale))) (t, Painted 0 1 (count (t .stale))))
-      by-word c r true = λ i. (held tp to tm s, Painted 0 0 (count (stale-held S w h s g tm i)))
-      by-word c r false =
+      -- the refusal inside the picture, where the word is equal, and where the position is locked
+      own : Bool → Bool → ℕ
+      own u k = cond u 0 (cond k 11 0)
+
+      sized : refusalPaint (S .side) header P (length M) column row word ≡ cond (inside w h column row) (own (eqb word (getD P at 0)) K) 5
+      sized =
+          let x : ℕ = cond (inside w h column row) (own (eqb word (getD P at 0)) K) 5 in
+          header-taken (cond (ltb (length P) (w * h)) 2 (cond (ltb (length M) (w * h)) 4 x))
+          ∙ beyond (ltb (length P) (w * h)) (ltb (length M) (w * h)) 2 4 x (picture-long S w h s g tp) (marks-long S w h s g tm)
+
+      -- what the machine does inside the picture
+      machine : Bool → Bool → State × Answer
+      machine u k = cond u (s, Painted 0 0 (count (s .stale))) (cond k (s, Painted 11 0 0) (t, Painted 0 1 (count (t .stale))))
+
+      by-word : column < w → row < h → (u k : Bool) → turn (choice (own u k) u) ≡ turned (machine u k)
+      by-word c r true k = λ i. (held tp to tm s, Painted 0 0 (count (stale-held S w h s g tm i)))
+      by-word c r false true = refl
+      by-word c r false false =
           let low : at < length (s .picture) = omega (arith, block-lt c r, g .picture-length) in
           let p : set P at word ≡ t .picture ++ tp = set-append-left (s .picture) tp at word low in
           let m : stamp (names S w h column row) 1 M ≡ bytes t ++ tm =
@@ -166,16 +189,16 @@ module _ (S : Screen) (L : Lawful S) (w h : ℕ) (sides : sideLong (S .side) w h
           λ i. (record { picture = p i; output = s .output ++ to; marks = m i }, Painted 0 1 (count (n i)))
 
       by-inside : (b : Bool) → inside w h column row ≡ b
-          → turn (choice (cond b 0 5) (eqb word (getD P at 0)))
-          ≡ turned (cond b (cond (eqb word (getD (s .picture) at 0)) (s, Painted 0 0 (count (s .stale))) (t, Painted 0 1 (count (t .stale)))) (s, Painted 5 0 0))
+          → turn (choice (cond b (own (eqb word (getD P at 0)) K) 5) (eqb word (getD P at 0)))
+          ≡ turned (cond b (machine (eqb word (getD (s .picture) at 0)) K) (s, Painted 5 0 0))
       by-inside false e = refl
       by-inside true e =
           let i = inside-of w h column row e in
           let u : eqb word (getD P at 0) ≡ eqb word (getD (s .picture) at 0) =
           ap (eqb word) (List·getD-append (s .picture) tp 0 at (omega (arith, block-lt (i .0) (i .1), g .picture-length))) in
-          ap (λ (b : Bool). turn (cond b unchanged stored)) u ∙ by-word (i .0) (i .1) (eqb word (getD (s .picture) at 0))
+          ap (λ (b : Bool). turn (choice (own b K) b)) u ∙ by-word (i .0) (i .1) (eqb word (getD (s .picture) at 0)) K
 
-  pub refresh-held : (n : ℕ) (d : RefreshEnd) → Refreshes S w h (s .picture ++ tp) (s .output ++ to) (bytes s ++ tm) n d
+  pub refresh-held : (n : ℕ) (d : RefreshEnd) → Refreshes S header (s .picture ++ tp) (s .output ++ to) (bytes s ++ tm) n d
       → _≡_ {A = Buffers × Answer}
       (record { picture = s .picture ++ tp; output = d .output; marks = d .marks }, Refreshed (d .refusal) (d .drawn) (d .left))
       (turned (step S w h (Refresh n) s))
@@ -232,7 +255,7 @@ module _ (S : Screen) (L : Lawful S) (w h : ℕ) (sides : sideLong (S .side) w h
           let l : staleOf (w * h) (setAll bs 0 M) ≡ t .stale = ap (staleOf (w * h)) m ∙ stale-held S w h t (good-redraw S L w h k s g) tm in
           λ i. (record { picture = P; output = o i; marks = m i }, Refreshed 0 k (count (l i)))
 
-  pub show-held : (bx by : ℕ) (d : ShowEnd) → Shows S w h (s .output ++ to) (bytes s ++ tm) bx by d
+  pub show-held : (bx by : ℕ) (d : ShowEnd) → Shows S header (s .output ++ to) (bytes s ++ tm) bx by d
       → Shown (d .refusal) (d .words) ≡ step S w h (Show bx by) s .1
   unfolding showEnd
   show-held bx by d q = ap turn (q .is) ∙ ap (λ (r : ℕ). turn (choice r)) sized ∙ by-inside (inside w h bx by) refl
@@ -255,10 +278,11 @@ module _ (S : Screen) (L : Lawful S) (w h : ℕ) (sides : sideLong (S .side) w h
       choice : ℕ → ShowEnd
       choice r = cond (eqb r 0) (record { refusal = 0; words = blockAt S w h bx by O }) (record { refusal = r; words = no-words })
 
-      sized : refusalShow (S .side) (blockWords S) w h (length O) M bx by ≡ cond (inside w h bx by) (cond (isStale (getD M at 0)) 7 0) 5
+      sized : refusalShow (S .side) (blockWords S) header (length O) M bx by ≡ cond (inside w h bx by) (cond (isStale (getD M at 0)) 7 0) 5
       sized =
-          past-sizes (sideLong (S .side) w h) (ltb (length O) (blockWords S * (w * h))) (ltb (length M) (w * h)) 1 3 4
-          (cond (inside w h bx by) (cond (isStale (getD M at 0)) 7 0) 5) sides (output-long S w h s g to) (marks-long S w h s g tm)
+          let x : ℕ = cond (inside w h bx by) (cond (isStale (getD M at 0)) 7 0) 5 in
+          header-taken (cond (ltb (length O) (blockWords S * (w * h))) 3 (cond (ltb (length M) (w * h)) 4 x))
+          ∙ beyond (ltb (length O) (blockWords S * (w * h))) (ltb (length M) (w * h)) 3 4 x (output-long S w h s g to) (marks-long S w h s g tm)
 
       by-mark : (b : Bool) → blockAt S w h bx by O ≡ blockAt S w h bx by (s .output)
           → turn (choice (cond b 7 0)) ≡ cond b (Shown 7 no-words) (Shown 0 (blockAt S w h bx by (s .output)))
@@ -275,3 +299,22 @@ module _ (S : Screen) (L : Lawful S) (w h : ℕ) (sides : sideLong (S .side) w h
           let m : isStale (getD M at 0) ≡ getD (s .stale) at true =
           ap isStale (List·getD-append (bytes s) tm 0 at low ∙ getD-any (bytes s) at 0 1 low) ∙ getD-bytes (s .stale) at in
           ap (λ (b : Bool). turn (choice (cond b 7 0))) m ∙ by-mark (getD (s .stale) at true) (block-append S L w h to s g bx by (i .0) (i .1))
+
+  -- the header that later calls are lent is that of the state after the lock
+  pub lock-held : (r : Rectangle) (d : LockEnd) → Locks S header r d
+      → _≡_ {A = Header × Answer} (latest header d, Locked (d .refusal) (d .header)) (headerOf w h (step S w h (Lock r) s .0), step S w h (Lock r) s .1)
+  unfolding lockEnd
+  lock-held r d q = ap turn (q .is) ∙ ap (λ (f : ℕ). turn (choice f)) (header-taken (cond (past w h r) 10 0)) ∙ by-past (past w h r)
+    where
+      turn : LockEnd → Header × Answer
+      turn d = (latest header d, Locked (d .refusal) (d .header))
+
+      choice : ℕ → LockEnd
+      choice f = cond (eqb f 0) (record { refusal = 0; header = withLock header r }) (record { refusal = f; header = noHeader })
+
+      machine : Bool → State × Answer
+      machine p = cond p (s, Locked 10 noHeader) (relock r s, Locked 0 (headerOf w h (relock r s)))
+
+      by-past : (p : Bool) → turn (choice (cond p 10 0)) ≡ (headerOf w h (machine p .0), machine p .1)
+      by-past true = refl
+      by-past false = refl

@@ -7,6 +7,9 @@ use Prim.Native.Nat.{ℕ, _+_, _*_, min}
 use lib.Dec.{ltb, eqb}
 use lib.ListN.{length, getD, set, take, drop, replicate}
 use Rattle.picture.specs.Refusal as refusal
+use Rattle.header.specs.declared.Rectangle.{Rectangle}
+use Rattle.header.specs.declared.Header.{Header}
+use Rattle.header.specs.Header.{locked, past, fresh, withLock, noHeader}
 use Rattle.machine.specs.Lists.{stamp, setAll, count, first}
 use Rattle.machine.specs.Screen.{Screen, blockWords}
 use Rattle.machine.specs.Machine.{inside, names, putAll, blockAt}
@@ -25,9 +28,7 @@ pub record OpenEnd : Type 0 where
   pub output : List ℕ
   pub marks : List ℕ
   pub refusal : ℕ
-  -- the header
-  pub width : ℕ
-  pub height : ℕ
+  pub header : Header
   pub stale : ℕ
 
 pub record PaintEnd : Type 0 where
@@ -48,56 +49,81 @@ pub record ShowEnd : Type 0 where
   pub refusal : ℕ
   pub words : List ℕ
 
--- ---- refusals, in the order of their checks: side is the screen's limit of a side, words how many words a block has; o, p and m are the
--- lengths of the output, the picture and the marks
+pub record LockEnd : Type 0 where
+  pub refusal : ℕ
+  pub header : Header
+
+-- ---- refusals, in the order of their checks: side is the screen's limit of a side, words how many words a block has; p, o and m are the
+-- lengths of the picture, the output and the marks
 
 abbrev pub sideLong : ℕ → ℕ → ℕ → Bool
 sideLong side w h = ltb side w || ltb side h
 
-module _ (side words w h : ℕ) where
-  -- of a call that is lent all three buffers: opening and refresh
+module _ (side words : ℕ) (header : Header) where
+  -- of a call that is lent all three buffers: opening, for the header that it is to answer, and refresh
   abbrev pub refusalAll : ℕ → ℕ → ℕ → ℕ
   refusalAll p o m =
-      cond (sideLong side w h) refusal.side
-      (cond (ltb p (w * h)) refusal.picture
-      (cond (ltb o (words * (w * h))) refusal.output
-      (cond (ltb m (w * h)) refusal.scratch refusal.none)))
+      let n = header .w * header .h in
+      cond (sideLong side (header .w) (header .h)) refusal.side
+      (cond (past (header .w) (header .h) (header .lock)) refusal.lock
+      (cond (ltb p n) refusal.picture
+      (cond (ltb o (words * n)) refusal.output
+      (cond (ltb m n) refusal.scratch refusal.none))))
 
   -- of show, which looks at the block's mark too
   abbrev pub refusalShow : ℕ → List ℕ → ℕ → ℕ → ℕ
   refusalShow o marks bx by =
-      cond (sideLong side w h) refusal.side
-      (cond (ltb o (words * (w * h))) refusal.output
-      (cond (ltb (length marks) (w * h)) refusal.scratch
-      (cond (inside w h bx by) (cond (isStale (getD marks (by * w + bx) 0)) refusal.stale refusal.none) refusal.outside)))
+      let n = header .w * header .h in
+      cond (sideLong side (header .w) (header .h)) refusal.side
+      (cond (past (header .w) (header .h) (header .lock)) refusal.lock
+      (cond (ltb o (words * n)) refusal.output
+      (cond (ltb (length marks) n) refusal.scratch
+      (cond (inside (header .w) (header .h) bx by)
+      (cond (isStale (getD marks (by * header .w + bx) 0)) refusal.stale refusal.none)
+      refusal.outside))))
 
--- of paint, which is lent no output
-abbrev pub refusalPaint : ℕ → ℕ → ℕ → ℕ → ℕ → ℕ → ℕ → ℕ
-refusalPaint side w h p m column row =
-    cond (sideLong side w h) refusal.side
-    (cond (ltb p (w * h)) refusal.picture (cond (ltb m (w * h)) refusal.scratch
-    (cond (inside w h column row) refusal.none refusal.outside)))
+module _ (side : ℕ) (header : Header) where
+  -- of paint, which is lent no output and looks at the word that is there: an equal one is not refused, be it locked or not
+  abbrev pub refusalPaint : List ℕ → ℕ → ℕ → ℕ → ℕ → ℕ
+  refusalPaint picture m column row word =
+      let n = header .w * header .h in
+      cond (sideLong side (header .w) (header .h)) refusal.side
+      (cond (past (header .w) (header .h) (header .lock)) refusal.lock
+      (cond (ltb (length picture) n) refusal.picture
+      (cond (ltb m n) refusal.scratch
+      (cond (inside (header .w) (header .h) column row)
+      (cond (eqb word (getD picture (row * header .w + column) 0)) refusal.none
+      (cond (locked (header .lock) column row) refusal.locked refusal.none))
+      refusal.outside))))
 
-module _ (S : Screen) (w h : ℕ) where
-  -- ---- opening: output words 0 and marks 1, as many as the picture asks for
-  unfoldable pub openEnd : List ℕ → List ℕ → List ℕ → OpenEnd
-  openEnd picture output marks =
-      let r = refusalAll (S .side) (blockWords S) w h (length picture) (length output) (length marks) in
-      cond (eqb r 0)
-      (record {
-        output = replicate (blockWords S * (w * h)) 0 ++ drop (blockWords S * (w * h)) output;
-        marks = replicate (w * h) 1 ++ drop (w * h) marks;
-        refusal = 0;
-        width = w;
-        height = h;
-        stale = w * h;
-      })
-      (record { output = output; marks = marks; refusal = r; width = 0; height = 0; stale = 0 })
+  -- of a lock, which is lent the header alone and given a rectangle
+  abbrev pub refusalLock : Rectangle → ℕ
+  refusalLock lock =
+      cond (sideLong side (header .w) (header .h)) refusal.side
+      (cond (past (header .w) (header .h) (header .lock)) refusal.lock
+      (cond (past (header .w) (header .h) lock) refusal.lock refusal.none))
 
+-- ---- opening: output words 0 and marks 1, as many as the picture asks for
+unfoldable pub openEnd : Screen → ℕ → ℕ → List ℕ → List ℕ → List ℕ → OpenEnd
+openEnd S w h picture output marks =
+    let r = refusalAll (S .side) (blockWords S) (fresh w h) (length picture) (length output) (length marks) in
+    cond (eqb r 0)
+    (record {
+      output = replicate (blockWords S * (w * h)) 0 ++ drop (blockWords S * (w * h)) output;
+      marks = replicate (w * h) 1 ++ drop (w * h) marks;
+      refusal = 0;
+      header = fresh w h;
+      stale = w * h;
+    })
+    (record { output = output; marks = marks; refusal = r; header = noHeader; stale = 0 })
+
+module _ (S : Screen) (header : Header) where
   -- ---- paint: an equal word alters nothing; another is stored, with 1 at the mark of each block that the paint names
   unfoldable pub paintEnd : List ℕ → List ℕ → ℕ → ℕ → ℕ → PaintEnd
   paintEnd picture marks column row word =
-      let r = refusalPaint (S .side) w h (length picture) (length marks) column row in
+      let w = header .w in
+      let h = header .h in
+      let r = refusalPaint (S .side) header picture (length marks) column row word in
       let at = row * w + column in
       let marked = stamp (names S w h column row) 1 marks in
       cond (eqb r 0)
@@ -109,7 +135,9 @@ module _ (S : Screen) (w h : ℕ) where
   -- ---- refresh: the first stale blocks in row order, n of them or all, drawn from the picture, with 0 at their marks
   unfoldable pub refreshEnd : List ℕ → List ℕ → List ℕ → ℕ → RefreshEnd
   refreshEnd picture output marks n =
-      let r = refusalAll (S .side) (blockWords S) w h (length picture) (length output) (length marks) in
+      let w = header .w in
+      let h = header .h in
+      let r = refusalAll (S .side) (blockWords S) header (length picture) (length output) (length marks) in
       let k = min n (count (staleOf (w * h) marks)) in
       let blocks = first k (staleOf (w * h) marks) in
       let cleared = setAll blocks 0 marks in
@@ -126,20 +154,30 @@ module _ (S : Screen) (w h : ℕ) where
   -- ---- show: the block's words in the output; nothing alters
   unfoldable pub showEnd : List ℕ → List ℕ → ℕ → ℕ → ShowEnd
   showEnd output marks bx by =
-      let r = refusalShow (S .side) (blockWords S) w h (length output) marks bx by in
-      cond (eqb r 0) (record { refusal = 0; words = blockAt S w h bx by output })
+      let r = refusalShow (S .side) (blockWords S) header (length output) marks bx by in
+      cond (eqb r 0) (record { refusal = 0; words = blockAt S (header .w) (header .h) bx by output })
       (record { refusal = r; words = replicate (blockWords S) 0 })
 
-  -- ---- the calls' contracts: from the buffers at entry, what is left and answered is e
+  -- ---- lock: the header with the rectangle that is given, as it is given
+  unfoldable pub lockEnd : Rectangle → LockEnd
+  lockEnd lock =
+      let r = refusalLock (S .side) header lock in
+      cond (eqb r 0) (record { refusal = 0; header = withLock header lock }) (record { refusal = r; header = noHeader })
 
-  pub record Opens (picture output marks : List ℕ) (e : OpenEnd) : Type 0 where
-    pub is : e ≡ openEnd picture output marks
+-- ---- the calls' contracts: from the buffers at entry, what is left and answered is e
 
+pub record Opens (S : Screen) (w h : ℕ) (picture output marks : List ℕ) (e : OpenEnd) : Type 0 where
+  pub is : e ≡ openEnd S w h picture output marks
+
+module _ (S : Screen) (header : Header) where
   pub record Paints (picture marks : List ℕ) (column row word : ℕ) (e : PaintEnd) : Type 0 where
-    pub is : e ≡ paintEnd picture marks column row word
+    pub is : e ≡ paintEnd S header picture marks column row word
 
   pub record Refreshes (picture output marks : List ℕ) (n : ℕ) (e : RefreshEnd) : Type 0 where
-    pub is : e ≡ refreshEnd picture output marks n
+    pub is : e ≡ refreshEnd S header picture output marks n
 
   pub record Shows (output marks : List ℕ) (bx by : ℕ) (e : ShowEnd) : Type 0 where
-    pub is : e ≡ showEnd output marks bx by
+    pub is : e ≡ showEnd S header output marks bx by
+
+  pub record Locks (lock : Rectangle) (e : LockEnd) : Type 0 where
+    pub is : e ≡ lockEnd S header lock

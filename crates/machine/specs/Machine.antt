@@ -1,4 +1,4 @@
--- Section 7's plain machine, for a picture of w by h on a screen S. It is given the opening's w, h and picture and each call's own
+-- Section 7's plain machine with the lock of request 3, for a picture of w by h on a screen S. It is given the opening's w, h and picture and each call's own
 -- arguments; it takes nothing from the program. Definitions only. Blocks are numbered in row order: block b is (b % w, b / w).
 use mathlib.Core.Bool.{Bool, true, false, cond, _&&_}
 use mathlib.Core.List.{List, [], _∷_}
@@ -6,6 +6,9 @@ use Prim.Native.Nat.{ℕ, suc, _+_, _*_, _/_, _%_, min}
 use lib.Dec.{ltb, eqb}
 use lib.ListN.{getD, set, replicate}
 use Rattle.picture.specs.Refusal as refusal
+use Rattle.header.specs.declared.Rectangle.{Rectangle}
+use Rattle.header.specs.declared.Header.{Header}
+use Rattle.header.specs.Header.{locked, past, noLock, noHeader}
 use Rattle.machine.specs.Lists.{table, stamp, setAll, count, first}
 use Rattle.machine.specs.Screen.{Screen, blockWords, place}
 
@@ -17,12 +20,15 @@ pub record State : Type 0 where
   pub stale : List Bool
   -- blockWords S * (w * h) words, laid out as `place` says
   pub output : List ℕ
+  -- the locked rectangle
+  pub lock : Rectangle
 
 -- a call, with its arguments other than header, picture, output and marks
 pub data Call : Type 0 where
   Paint : (column row word : ℕ) → Call
   Refresh : (n : ℕ) → Call
   Show : (bx by : ℕ) → Call
+  Lock : (lock : Rectangle) → Call
 
 -- a call's answer: the refusal's number, 0 for none, and what stands beside it, each number of which is 0 beside a refusal
 pub data Answer : Type 0 where
@@ -30,10 +36,19 @@ pub data Answer : Type 0 where
   Painted : (refusal changed stale : ℕ) → Answer
   Refreshed : (refusal drawn left : ℕ) → Answer
   Shown : (refusal : ℕ) (words : List ℕ) → Answer
+  Locked : (refusal : ℕ) (header : Header) → Answer
 
 -- the position lies inside the picture
 abbrev pub inside : ℕ → ℕ → ℕ → ℕ → Bool
 inside w h column row = ltb column w && ltb row h
+
+-- the header that belongs to a state
+abbrev pub headerOf : ℕ → ℕ → State → Header
+headerOf w h s = record { w = w; h = h; lock = s .lock }
+
+-- the rectangle locked in place of the one before
+abbrev pub relock : Rectangle → State → State
+relock r s = record { picture = s .picture; stale = s .stale; output = s .output; lock = r }
 
 module _ (S : Screen) (w h : ℕ) where
   -- block b lies inside the picture, and a changing paint at (column, row) names it
@@ -58,9 +73,14 @@ module _ (S : Screen) (w h : ℕ) where
   abbrev pub blockAt : ℕ → ℕ → List ℕ → List ℕ
   blockAt bx by output = table (blockWords S) (λ k. getD output (place S w bx by k) 0)
 
-  -- ---- opening: all blocks stale, output words 0
+  -- ---- opening: all blocks stale, output words 0, nothing locked
   abbrev pub opened : List ℕ → State
-  opened picture = record { picture = picture; stale = replicate (w * h) true; output = replicate (blockWords S * (w * h)) 0 }
+  opened picture = record {
+    picture = picture;
+    stale = replicate (w * h) true;
+    output = replicate (blockWords S * (w * h)) 0;
+    lock = noLock;
+  }
 
   -- ---- a paint of another word: it is stored, and the blocks that the paint names become stale
   abbrev pub store : ℕ → ℕ → ℕ → State → State
@@ -68,6 +88,7 @@ module _ (S : Screen) (w h : ℕ) where
     picture = set (s .picture) (row * w + column) word;
     stale = stamp (names column row) true (s .stale);
     output = s .output;
+    lock = s .lock;
   }
 
   -- ---- the first k stale blocks in row order drawn from the present picture, and not stale
@@ -76,16 +97,20 @@ module _ (S : Screen) (w h : ℕ) where
     picture = s .picture;
     stale = setAll (first k (s .stale)) false (s .stale);
     output = putAll (s .picture) (first k (s .stale)) (s .output);
+    lock = s .lock;
   }
 
-  -- ---- a call: the state after it, and its answer. Of the refusals only 5 and 7 can be read on the machine's state: the opening was not
-  -- refused, so the sides are within their limit, and the machine has no buffer that could be short.
+  -- ---- a call: the state after it, and its answer. Of the refusals only 5, 7, 10 of a lock that is given, and 11 can be read on the
+  -- machine's state: the opening was not refused, so the sides are within their limit, the machine takes no lock that reaches past the
+  -- picture, and it has no buffer that could be short.
   abbrev pub step : Call → State → State × Answer
   step (Paint column row word) s =
       cond (inside w h column row)
       (cond (eqb word (getD (s .picture) (row * w + column) 0))
       (s, Painted 0 0 (count (s .stale)))
-      (store column row word s, Painted 0 1 (count (store column row word s .stale))))
+      (cond (locked (s .lock) column row)
+      (s, Painted refusal.locked 0 0)
+      (store column row word s, Painted 0 1 (count (store column row word s .stale)))))
       (s, Painted refusal.outside 0 0)
   step (Refresh n) s =
       let k = min n (count (s .stale)) in
@@ -96,6 +121,7 @@ module _ (S : Screen) (w h : ℕ) where
         (cond (getD (s .stale) (by * w + bx) true) (Shown refusal.stale (replicate (blockWords S) 0)) (Shown 0 (blockAt bx by (s .output))))
         (Shown refusal.outside (replicate (blockWords S) 0)),
   )
+  step (Lock r) s = cond (past w h r) (s, Locked refusal.lock noHeader) (relock r s, Locked 0 (headerOf w h (relock r s)))
 
   -- ---- a list of calls: the state after it, and the answer of each call in its place
   abbrev pub after : List Call → State → State

@@ -43,5 +43,13 @@ trailer = 8
 abbrev pub long : ℕ
 long = 9
 
+-- a lock of width and height above 0 that reaches past the picture
+abbrev pub lock : ℕ
+lock = 10
+
+-- another word than the one there, painted inside the lock
+abbrev pub locked : ℕ
+locked = 11
+
 abbrev pub all : List ℕ
-all = none ∷ side ∷ picture ∷ output ∷ scratch ∷ outside ∷ operand ∷ stale ∷ trailer ∷ long ∷ []
+all = none ∷ side ∷ picture ∷ output ∷ scratch ∷ outside ∷ operand ∷ stale ∷ trailer ∷ long ∷ lock ∷ locked ∷ []

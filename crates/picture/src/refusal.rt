@@ -22,9 +22,13 @@ pub const STALE: u32 = 7;
 pub const TRAILER: u32 = 8;
 // A file longer than the program takes.
 pub const LONG: u32 = 9;
+// A lock of width and height above 0 that reaches past the picture.
+pub const LOCK: u32 = 10;
+// Another word than the one there, painted inside the lock.
+pub const LOCKED: u32 = 11;
 
 // The names here and in the definitions are the same numbers.
-pub fn numbers() -> [u32; 10]
+pub fn numbers() -> [u32; 12]
     ensures { λ r. ⌜ r ≡ all ⌝ }
 {
     [
@@ -38,5 +42,7 @@ pub fn numbers() -> [u32; 10]
         STALE,
         TRAILER,
         LONG,
+        LOCK,
+        LOCKED,
     ]
 }

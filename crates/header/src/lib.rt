@@ -1,0 +1,61 @@
+// A session's header, one thing that every call but the opening is lent: the picture's width and height, and one locked rectangle, the lock.
+// `specs/Header.antt` says what a lock holds and where it reaches past the picture.
+ghost use mathlib.Core.Path.{_≡_};
+ghost use Rattle.header.specs.Header.{locked, past, fresh, noHeader};
+
+// A rectangle of the picture: its first column and row, its columns and rows. As a lock of width or height 0 it locks nothing, whatever
+// the other three are.
+pub struct Rectangle {
+    pub left: u32,
+    pub top: u32,
+    pub width: u32,
+    pub height: u32,
+}
+
+pub struct Header {
+    pub w: u32,
+    pub h: u32,
+    pub lock: Rectangle,
+}
+
+// The header that an opening answers: no lock.
+pub fn fresh(w: u32, h: u32) -> Header
+    ensures { λ r. ⌜ r ≡ fresh w h ⌝ }
+{
+    Header {
+        w,
+        h,
+        lock: Rectangle {
+            left: 0,
+            top: 0,
+            width: 0,
+            height: 0,
+        },
+    }
+}
+
+// The header that stands beside a refusal.
+pub fn no_header() -> Header
+    ensures { λ r. ⌜ r ≡ noHeader ⌝ }
+{
+    fresh(0, 0)
+}
+
+// The position lies in the lock. The sums are taken in 64 bits: in 32 a border near 2^32 would wrap.
+pub fn locked(lock: Rectangle, column: u32, row: u32) -> bool
+    ensures { λ r. ⌜ r ≡ locked lock column row ⌝ }
+{
+    let right = (lock.left as u64) + (lock.width as u64);
+    let bottom = (lock.top as u64) + (lock.height as u64);
+    ((lock.left <= column) & ((column as u64) < right))
+        & ((lock.top <= row) & ((row as u64) < bottom))
+}
+
+// The rectangle reaches past a picture of w by h.
+pub fn past(w: u32, h: u32, r: Rectangle) -> bool
+    ensures { λ b. ⌜ b ≡ past w h r ⌝ }
+{
+    let right = (r.left as u64) + (r.width as u64);
+    let bottom = (r.top as u64) + (r.height as u64);
+    ((0 < r.width) & (0 < r.height)) & (((w as u64) < right) | ((h as u64) < bottom))
+}
