@@ -1,10 +1,14 @@
 // Why a call of a session is refused: the number of the first condition that holds, 0 for none. side is the screen's limit of a side, words
-// how many words a block has; p, o and m are the lengths of the picture, the output and the marks. No screen has a longer side than 2,048,
+// how many words a block has; header is what the call is lent, or is to answer; p, o and m are the lengths of the picture, the output and the marks. No screen has a longer side than 2,048,
 // nor a block of more than 81 words, as many as nine-times makes of a pixel: so no product wraps.
+use header::Header;
+use header::Rectangle;
+use header::locked;
+use header::past;
 use picture::refusal;
 ghost use mathlib.Core.Path.{_≡_};
 ghost use Prim.Native.Nat.{_≤_};
-ghost use Rattle.machine.specs.Calls.{sideLong, refusalAll, refusalPaint, refusalShow};
+ghost use Rattle.machine.specs.Calls.{sideLong, refusalAll, refusalPaint, refusalShow, refusalLock};
 
 // A side past its limit.
 fn side_long(side: u32, w: u32, h: u32) -> bool
@@ -14,12 +18,17 @@ fn side_long(side: u32, w: u32, h: u32) -> bool
 }
 
 // Of a call that is lent all three buffers.
-pub fn refuse_all(side: u32, words: usize, w: u32, h: u32, p: usize, o: usize, m: usize) -> u32
+pub fn refuse_all(side: u32, words: usize, header: Header, p: usize, o: usize, m: usize) -> u32
     requires { ⌜ (side ≤ 2048) × (words ≤ 81) ⌝ }
-    ensures { λ r. ⌜ r ≡ refusalAll side words w h p o m ⌝ }
+    ensures { λ r. ⌜ r ≡ refusalAll side words header p o m ⌝ }
 {
+    let w = header.w;
+    let h = header.h;
     if side_long(side, w, h) {
         return refusal::SIDE;
+    }
+    if past(w, h, header.lock) {
+        return refusal::LOCK;
     }
     let n = (w as usize) * (h as usize);
     if p < n {
@@ -34,22 +43,39 @@ pub fn refuse_all(side: u32, words: usize, w: u32, h: u32, p: usize, o: usize, m
     refusal::NONE
 }
 
-// Of a paint at (column, row), which is lent no output.
-pub fn refuse_paint(side: u32, w: u32, h: u32, p: usize, m: usize, column: u32, row: u32) -> u32
+// Of a paint of word at (column, row), which is lent no output. A word that is there already is not refused, be it locked or not.
+pub fn refuse_paint(
+    side: u32,
+    header: Header,
+    picture: &[u32],
+    m: usize,
+    column: u32,
+    row: u32,
+    word: u32,
+) -> u32
     requires { ⌜ side ≤ 2048 ⌝ }
-    ensures { λ r. ⌜ r ≡ refusalPaint side w h p m column row ⌝ }
+    ensures { λ r. ⌜ r ≡ refusalPaint side header (now (picture .entry)) m column row word ⌝ }
 {
+    let w = header.w;
+    let h = header.h;
     if side_long(side, w, h) {
         return refusal::SIDE;
     }
+    if past(w, h, header.lock) {
+        return refusal::LOCK;
+    }
     let n = (w as usize) * (h as usize);
-    if p < n {
+    if picture.len() < n {
         return refusal::PICTURE;
     }
     if m < n {
         return refusal::SCRATCH;
     }
     if (column < w) & (row < h) {
+        let old = picture[(row as usize) * (w as usize) + (column as usize)];
+        if (word != old) & locked(header.lock, column, row) {
+            return refusal::LOCKED;
+        }
         return refusal::NONE;
     }
     refusal::OUTSIDE
@@ -59,18 +85,22 @@ pub fn refuse_paint(side: u32, w: u32, h: u32, p: usize, m: usize, column: u32, 
 pub fn refuse_show(
     side: u32,
     words: usize,
-    w: u32,
-    h: u32,
+    header: Header,
     o: usize,
     marks: &[u8],
     bx: u32,
     by: u32,
 ) -> u32
     requires { ⌜ (side ≤ 2048) × (words ≤ 81) ⌝ }
-    ensures { λ r. ⌜ r ≡ refusalShow side words w h o (now (marks .entry)) bx by ⌝ }
+    ensures { λ r. ⌜ r ≡ refusalShow side words header o (now (marks .entry)) bx by ⌝ }
 {
+    let w = header.w;
+    let h = header.h;
     if side_long(side, w, h) {
         return refusal::SIDE;
+    }
+    if past(w, h, header.lock) {
+        return refusal::LOCK;
     }
     let n = (w as usize) * (h as usize);
     if o < words * n {
@@ -86,4 +116,22 @@ pub fn refuse_show(
         return refusal::NONE;
     }
     refusal::OUTSIDE
+}
+
+// Of a lock of a rectangle, which is lent the header alone.
+pub fn refuse_lock(side: u32, header: Header, lock: Rectangle) -> u32
+    ensures { λ r. ⌜ r ≡ refusalLock side header lock ⌝ }
+{
+    let w = header.w;
+    let h = header.h;
+    if side_long(side, w, h) {
+        return refusal::SIDE;
+    }
+    if past(w, h, header.lock) {
+        return refusal::LOCK;
+    }
+    if past(w, h, lock) {
+        return refusal::LOCK;
+    }
+    refusal::NONE
 }
