@@ -11,6 +11,7 @@ use Rattle.picture.specs.Picture.{words}
 use Rattle.block.specs.Block.{blockOf}
 use Rattle.whole.specs.Whole.{scaleOf}
 use Rattle.whole.specs.Laws.{scale-block, scale-length}
+use Rattle.header.specs.declared.Header.{Header}
 use Rattle.machine.specs.Lists.{table}
 use Rattle.machine.specs.Machine.{Call, Answer, blockAt, after}
 use Rattle.machine.specs.Demand3.{Buffers, Trace, whole, started, left}
@@ -53,7 +54,7 @@ whole-scaled w h p = ext-getD 0 (whole screen3 w h p) (scaleOf w h f) (long ∙ 
         let o = spot-onto 3 w (omega arith) h i l in
         ap (λ (n : ℕ). getD (whole screen3 w h p) n 0) (sym (o .4)) ∙ word (o .0) (o .1) (o .2) (o .3) ∙ ap (λ (n : ℕ). getD (scaleOf w h f) n 0) (o .4)
 
-module _ {w h stale : ℕ} {b e : Buffers} {cs : List Call} {rs : List Answer} (t : Trace screen3 w h b stale cs rs e) where
+module _ {w h stale : ℕ} {b e : Buffers} {cs : List Call} {rs : List Answer} {last : Header} (t : Trace screen3 w h b stale cs rs last e) where
   pub shows-scaled : (bx by : ℕ) → bx < w → by < h → getD (after screen3 w h cs (started screen3 w h b) .stale) (by * w + bx) true ≡ false
       → blockAt screen3 w h bx by (e .output) ≡ blockAt screen3 w h bx by (scaleOf w h (words w (take (w * h) (e .picture))))
   shows-scaled bx by hx hy fresh =

@@ -1,11 +1,16 @@
 // A session: a picture that is painted word by word, and its enlarged output, in which a refresh redraws the blocks that
-// a paint made stale. `machine/specs/Calls.antt` says what each call leaves and answers, `Machine.antt` beside it is the plain machine,
+// a paint made stale; one rectangle of it can be locked against paints. `machine/specs/Calls.antt` says what each call leaves and answers, `Machine.antt` beside it is the plain machine,
 // `Demand3.antt` says what holds of every list of calls, and `proofs/Theorem.antt` here proves it of this session.
 use draw::draw_first;
+use header::Header;
+use header::Rectangle;
+use header::fresh;
+use header::no_header;
 use marks::count_stale;
 use marks::mark_run;
 use picture::place::least;
 use refusals::refuse_all;
+use refusals::refuse_lock;
 use refusals::refuse_paint;
 use refusals::refuse_show;
 use three::mark_paint;
@@ -14,13 +19,12 @@ ghost use mathlib.Core.Path.{_≡_};
 ghost use mathlib.Core.List.{_++_};
 ghost use Prim.Native.Nat.{_≤_};
 ghost use lib.ListN.{length, drop, replicate};
-ghost use Rattle.machine.specs.Calls.{Opens, Paints, Refreshes, Shows};
+ghost use Rattle.machine.specs.Calls.{Opens, Paints, Refreshes, Shows, Locks};
 ghost use Rattle.three.specs.Three.{screen3};
 
-// The header: the picture's width and height.
+// A session is known by its header alone: the buffers are lent to each call. The type says which screen's calls it was opened for.
 pub struct Session {
-    pub w: u32,
-    pub h: u32,
+    pub header: Header,
 }
 
 pub struct Opened {
@@ -47,6 +51,11 @@ pub struct Shown {
     pub words: [u32; 9],
 }
 
+pub struct Locked {
+    pub refusal: u32,
+    pub session: Session,
+}
+
 // How many words a block has.
 const WORDS: usize = 9;
 
@@ -66,23 +75,22 @@ impl Session {
     // The limit of w and of h.
     pub const SIDE: u32 = 2048;
 
-    // A session on the picture: the output's words are made 0, and every block stale.
+    // A session on the picture: the output's words are made 0, every block stale, and nothing is locked.
     pub fn open(w: u32, h: u32, picture: &[u32], output: &mut [u32], marks: &mut [u8]) -> Opened
         ensures { λ r. ⌜ Opens screen3 w h (now (picture .entry)) (now (output .entry)) (now (marks .entry))
             (record {
               output = now (output .exit);
               marks = now (marks .exit);
               refusal = r .refusal;
-              width = r .session .w;
-              height = r .session .h;
+              header = r .session .header;
               stale = r .stale;
             }) ⌝ }
     {
+        let header = fresh(w, h);
         let refusal = refuse_all(
             Session::SIDE,
             WORDS,
-            w,
-            h,
+            header,
             picture.len(),
             output.len(),
             marks.len(),
@@ -90,7 +98,9 @@ impl Session {
         if refusal != 0 {
             return Opened {
                 refusal,
-                session: Session { w: 0, h: 0 },
+                session: Session {
+                    header: no_header(),
+                },
                 stale: 0,
             };
         }
@@ -99,7 +109,7 @@ impl Session {
         mark_run(marks, 0, n);
         Opened {
             refusal: 0,
-            session: Session { w, h },
+            session: Session { header },
             stale: w * h,
         }
     }
@@ -113,7 +123,7 @@ impl Session {
         row: u32,
         word: u32,
     ) -> Painted
-        ensures { λ r. ⌜ Paints screen3 (self .w) (self .h) (now (picture .entry)) (now (marks .entry)) column row word
+        ensures { λ r. ⌜ Paints screen3 (self .header) (now (picture .entry)) (now (marks .entry)) column row word
             (record {
               picture = now (picture .exit);
               marks = now (marks .exit);
@@ -122,9 +132,16 @@ impl Session {
               stale = r .stale;
             }) ⌝ }
     {
-        let w = self.w;
-        let h = self.h;
-        let refusal = refuse_paint(Session::SIDE, w, h, picture.len(), marks.len(), column, row);
+        let header = self.header;
+        let refusal = refuse_paint(
+            Session::SIDE,
+            header,
+            picture,
+            marks.len(),
+            column,
+            row,
+            word,
+        );
         if refusal != 0 {
             return Painted {
                 refusal,
@@ -132,6 +149,8 @@ impl Session {
                 stale: 0,
             };
         }
+        let w = header.w;
+        let h = header.h;
         let n = (w as usize) * (h as usize);
         let at = (row as usize) * (w as usize) + (column as usize);
         let old = picture[at];
@@ -153,7 +172,7 @@ impl Session {
 
     // The first n stale blocks in row order redrawn from the picture.
     pub fn refresh(self, picture: &[u32], output: &mut [u32], marks: &mut [u8], n: u32) -> Refreshed
-        ensures { λ r. ⌜ Refreshes screen3 (self .w) (self .h) (now (picture .entry)) (now (output .entry)) (now (marks .entry)) n
+        ensures { λ r. ⌜ Refreshes screen3 (self .header) (now (picture .entry)) (now (output .entry)) (now (marks .entry)) n
             (record {
               output = now (output .exit);
               marks = now (marks .exit);
@@ -162,13 +181,11 @@ impl Session {
               left = r .left;
             }) ⌝ }
     {
-        let w = self.w;
-        let h = self.h;
+        let header = self.header;
         let refusal = refuse_all(
             Session::SIDE,
             WORDS,
-            w,
-            h,
+            header,
             picture.len(),
             output.len(),
             marks.len(),
@@ -180,7 +197,7 @@ impl Session {
                 left: 0,
             };
         }
-        let stale = draw_first(picture, output, marks, w, h, n);
+        let stale = draw_first(picture, output, marks, header.w, header.h, n);
         let drawn = least(stale, n);
         Refreshed {
             refusal: 0,
@@ -191,12 +208,11 @@ impl Session {
 
     // The words of block (bx, by).
     pub fn show(self, output: &[u32], marks: &[u8], bx: u32, by: u32) -> Shown
-        ensures { λ r. ⌜ Shows screen3 (self .w) (self .h) (now (output .entry)) (now (marks .entry)) bx by
+        ensures { λ r. ⌜ Shows screen3 (self .header) (now (output .entry)) (now (marks .entry)) bx by
             (record { refusal = r .refusal; words = r .words }) ⌝ }
     {
-        let w = self.w;
-        let h = self.h;
-        let refusal = refuse_show(Session::SIDE, WORDS, w, h, output.len(), marks, bx, by);
+        let header = self.header;
+        let refusal = refuse_show(Session::SIDE, WORDS, header, output.len(), marks, bx, by);
         if refusal != 0 {
             return Shown {
                 refusal,
@@ -205,7 +221,32 @@ impl Session {
         }
         Shown {
             refusal: 0,
-            words: read_block(output, w, h, bx, by),
+            words: read_block(output, header.w, header.h, bx, by),
+        }
+    }
+    // The header with another rectangle locked; one of width or height 0 locks nothing.
+    pub fn lock(self, lock: Rectangle) -> Locked
+        ensures { λ r. ⌜ Locks screen3 (self .header) lock (record { refusal = r .refusal; header = r .session .header }) ⌝ }
+    {
+        let header = self.header;
+        let refusal = refuse_lock(Session::SIDE, header, lock);
+        if refusal != 0 {
+            return Locked {
+                refusal,
+                session: Session {
+                    header: no_header(),
+                },
+            };
+        }
+        Locked {
+            refusal: 0,
+            session: Session {
+                header: Header {
+                    w: header.w,
+                    h: header.h,
+                    lock,
+                },
+            },
         }
     }
 }

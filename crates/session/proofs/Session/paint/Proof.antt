@@ -16,19 +16,22 @@ use Rattle.session.proofs.Session.paint.Tie as tie
 refuse-paint-requires : tie.Need-refuse-paint-requires
 refuse-paint-requires c κs = search needs
 
+same-length : tie.Need-same-length
+same-length c = search needs
+
 returns : tie.Need-returns
 returns c =
-    let a = c .before .before .before .before .args in
-    paint-refused screen3 (a .self .w) (a .self .h) (a .picture .now) (a .marks .now) (a .column) (a .row) (a .word) (c .before .refuse-paint .result)
+    let a = c .before .before .before .before .before .before .args in
+    paint-refused screen3 (a .self .header) (a .picture .now) (a .marks .now) (a .column) (a .row) (a .word) (c .before .refuse-paint .result)
     (c .before .refuse-paint .ensures) (c .if1 .taken)
 
 abbrev LentAt : tie.Start → Type 0
-LentAt s = let a = s .args in LentPaint screen3 (a .self .w) (a .self .h) (length (a .picture .now)) (length (a .marks .now)) (a .column) (a .row)
+LentAt s = let a = s .args in LentPaint screen3 (a .self .header .w) (a .self .header .h) (length (a .picture .now)) (length (a .marks .now)) (a .column) (a .row)
 
-lent-of : (c : tie.Else1) → LentAt (c .before .before .before .before)
+lent-of : (c : tie.Else1) → LentAt (c .before .before .before .before .before .before)
 lent-of c =
-    let a = c .before .before .before .before .args in
-    lent-paint screen3 (a .self .w) (a .self .h) (length (a .picture .now)) (length (a .marks .now)) (a .column) (a .row)
+    let a = c .before .before .before .before .before .before .args in
+    lent-paint screen3 (a .self .header) (a .picture .now) (length (a .marks .now)) (a .column) (a .row) (a .word)
     (sym (c .before .refuse-paint .ensures) ∙ c .if1 .left)
 
 cast-n : tie.Need-cast-n
@@ -57,19 +60,22 @@ slice-read-old c = omega (arith, lent-of (c .before))
 
 count-stale-requires : tie.Need-count-stale-requires
 count-stale-requires c κs =
-    let a = c .before .before .before .before .before .before .before .args in
+    let a = c .before .before .before .before .before .before .before .before .before .args in
     let l = lent-of (c .before .before .before) in
-    (omega arith, (area (a .self .w) (a .self .h) (l .wide) (l .high), l .for-marks))
+    (omega arith, (area (a .self .header .w) (a .self .header .h) (l .wide) (l .high), l .for-marks))
 
-same-length : tie.Need-same-length
-same-length c = search needs
+same-length-2 : tie.Need-same-length-2
+same-length-2 c = search needs
+
+same-length-3 : tie.Need-same-length-3
+same-length-3 c = search needs
 
 returns-2 : tie.Need-returns-2
 returns-2 c =
     let k = c .before .before .before .before in
     let r = k .before .refuse-paint in
-    let a = k .before .before .before .before .args in
-    paint-same screen3 (a .self .w) (a .self .h) (a .picture .now) (a .marks .now) (a .column) (a .row) (a .word) (r .result) (r .ensures) (k .if1 .left)
+    let a = k .before .before .before .before .before .before .args in
+    paint-same screen3 (a .self .header) (a .picture .now) (a .marks .now) (a .column) (a .row) (a .word) (r .result) (r .ensures) (k .if1 .left)
     (c .before .before .if2 .taken) (c .count-stale .result) (c .count-stale .ensures)
 
 mul-picture : tie.Need-mul-picture
@@ -83,16 +89,16 @@ mark-paint-requires c κs = let l = lent-of (c .before .before .before) in (l .w
 
 count-stale-requires-2 : tie.Need-count-stale-requires-2
 count-stale-requires-2 c κs =
-    let a = c .before .before .before .before .before .before .before .before .before .before .before .args in
+    let a = c .before .before .before .before .before .before .before .before .before .before .before .before .before .args in
     let l = lent-of (c .before .before .before .before .before .before .before) in
-    let e = ap length (c .before .before .before .mark-paint .ensures) ∙ length-stamp 0 (names screen3 (a .self .w) (a .self .h) (a .column) (a .row)) 1 (a .marks .now) in
-    (omega arith, (area (a .self .w) (a .self .h) (l .wide) (l .high), omega (arith, l .for-marks, e)))
+    let e = ap length (c .before .before .before .mark-paint .ensures) ∙ length-stamp 0 (names screen3 (a .self .header .w) (a .self .header .h) (a .column) (a .row)) 1 (a .marks .now) in
+    (omega arith, (area (a .self .header .w) (a .self .header .h) (l .wide) (l .high), omega (arith, l .for-marks, e)))
 
-same-length-2 : tie.Need-same-length-2
-same-length-2 c = search needs
+same-length-4 : tie.Need-same-length-4
+same-length-4 c = search needs
 
-same-length-3 : tie.Need-same-length-3
-same-length-3 c = search needs
+same-length-5 : tie.Need-same-length-5
+same-length-5 c = search needs
 
 returns-3 : tie.Need-returns-3
 returns-3 c =
@@ -100,9 +106,9 @@ returns-3 c =
     let other = c .before .before .before .before .before .before in
     let k = other .before .before in
     let r = k .before .refuse-paint in
-    let a = k .before .before .before .before .args in
-    paint-done screen3 (a .self .w) (a .self .h) (a .picture .now) (a .marks .now) (a .column) (a .row) (a .word) (r .result) (r .ensures) (k .if1 .left)
-    (other .if2 .left) (set (a .picture .now) (a .row * a .self .w + a .column) (a .word)) (marked .last .0) (c .count-stale2 .result) refl
+    let a = k .before .before .before .before .before .before .args in
+    paint-done screen3 (a .self .header) (a .picture .now) (a .marks .now) (a .column) (a .row) (a .word) (r .result) (r .ensures) (k .if1 .left)
+    (other .if2 .left) (set (a .picture .now) (a .row * a .self .header .w + a .column) (a .word)) (marked .last .0) (c .count-stale2 .result) refl
     (marked .ensures) (c .count-stale2 .ensures)
 
 pub paint-spec : {M : Type 1} → statement M
@@ -110,6 +116,7 @@ paint-spec =
     tie.close
     (tie.spec
     refuse-paint-requires
+    same-length
     returns
     cast-n
     cast-n-2
@@ -120,12 +127,13 @@ paint-spec =
     mul-old
     slice-read-old
     count-stale-requires
-    same-length
+    same-length-2
+    same-length-3
     returns-2
     mul-picture
     slice-write-picture
     mark-paint-requires
     count-stale-requires-2
-    same-length-2
-    same-length-3
+    same-length-4
+    same-length-5
     returns-3)

@@ -12,20 +12,20 @@ refuse-show-requires c κs = search needs
 
 returns : tie.Need-returns
 returns c =
-    let a = c .before .before .before .before .args in
-    show-refused screen3 (a .self .w) (a .self .h) (a .output .now) (a .marks .now) (a .bx) (a .by) (c .before .refuse-show .result)
+    let a = c .before .before .before .before .before .args in
+    show-refused screen3 (a .self .header) (a .output .now) (a .marks .now) (a .bx) (a .by) (c .before .refuse-show .result)
     (c .before .refuse-show .ensures) (c .if1 .taken) (replicate 9 0) refl
 
 read-block-requires : tie.Need-read-block-requires
 read-block-requires c κs =
-    let a = c .before .before .before .before .args in
-    let l = lent-show screen3 (a .self .w) (a .self .h) (length (a .output .now)) (a .marks .now) (a .bx) (a .by) (sym (c .before .refuse-show .ensures) ∙ c .if1 .left) in
+    let a = c .before .before .before .before .before .args in
+    let l = lent-show screen3 (a .self .header) (length (a .output .now)) (a .marks .now) (a .bx) (a .by) (sym (c .before .refuse-show .ensures) ∙ c .if1 .left) in
     (l .across, (l .down, (l .wide, (l .high, l .for-output))))
 
 returns-2 : tie.Need-returns-2
 returns-2 c =
-    let a = c .before .before .before .before .before .args in
-    show-done screen3 (a .self .w) (a .self .h) (a .output .now) (a .marks .now) (a .bx) (a .by) (c .before .before .refuse-show .result)
+    let a = c .before .before .before .before .before .before .args in
+    show-done screen3 (a .self .header) (a .output .now) (a .marks .now) (a .bx) (a .by) (c .before .before .refuse-show .result)
     (c .before .before .refuse-show .ensures) (c .before .if1 .left) (c .read-block .result) (c .read-block .ensures)
 
 pub show-spec : {M : Type 1} → statement M
