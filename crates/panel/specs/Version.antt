@@ -7,7 +7,7 @@ major = 0
 
 -- raised where a call is added, or answers otherwise
 abbrev pub minor : ℕ
-minor = 3
+minor = 4
 
 -- raised where neither is so
 abbrev pub patch : ℕ

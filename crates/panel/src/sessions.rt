@@ -1,8 +1,45 @@
-// The calls of a session. The header is an array of two numbers, w and h.
+// The calls of a session. The header is an array of six numbers: w, h, and left, top, width and height of the lock.
+use header::Header;
+use header::Rectangle;
 use session::Session;
-ghost use Rattle.machine.specs.Calls.{Opens, Paints, Refreshes, Shows};
+ghost use mathlib.Core.Path.{_≡_};
+ghost use Rattle.machine.specs.Calls.{Opens, Paints, Refreshes, Shows, Locks};
 ghost use Rattle.three.specs.Three.{screen3};
-ghost use Rattle.panel.specs.Header.{width, height};
+ghost use Rattle.panel.specs.Header.{headerOf};
+
+// The session that a header's numbers stand for.
+fn session_of(numbers: &[u32; 6]) -> Session
+    ensures { λ r. ⌜ r .header ≡ headerOf (now (numbers .entry)) ⌝ }
+{
+    Session {
+        header: Header {
+            w: numbers[0],
+            h: numbers[1],
+            lock: Rectangle {
+                left: numbers[2],
+                top: numbers[3],
+                width: numbers[4],
+                height: numbers[5],
+            },
+        },
+    }
+}
+
+// The numbers of a session's header.
+fn numbers_of(session: Session) -> [u32; 6]
+    ensures { λ r. ⌜ headerOf r ≡ session .header ⌝ }
+{
+    let header = session.header;
+    let lock = header.lock;
+    [
+        header.w,
+        header.h,
+        lock.left,
+        lock.top,
+        lock.width,
+        lock.height,
+    ]
+}
 
 // A session opened on a picture; its header and its stale count.
 #[no_mangle]
@@ -12,7 +49,7 @@ pub extern "C" fn panel_open(
     picture: &[u32],
     output: &mut [u32],
     marks: &mut [u8],
-    header: &mut [u32; 2],
+    header: &mut [u32; 6],
     stale: &mut u32,
 ) -> u32
     ensures { λ r. ⌜ Opens screen3 w h (now (picture .entry)) (now (output .entry)) (now (marks .entry))
@@ -20,14 +57,12 @@ pub extern "C" fn panel_open(
           output = now (output .exit);
           marks = now (marks .exit);
           refusal = r;
-          width = width (now (header .exit));
-          height = height (now (header .exit));
+          header = headerOf (now (header .exit));
           stale = now (stale .exit);
         }) ⌝ }
 {
     let opened = Session::open(w, h, picture, output, marks);
-    let session = opened.session;
-    *header = [session.w, session.h];
+    *header = numbers_of(opened.session);
     *stale = opened.stale;
     opened.refusal
 }
@@ -35,7 +70,7 @@ pub extern "C" fn panel_open(
 // One word of the picture painted.
 #[no_mangle]
 pub extern "C" fn panel_paint(
-    header: &[u32; 2],
+    header: &[u32; 6],
     picture: &mut [u32],
     marks: &mut [u8],
     column: u32,
@@ -44,7 +79,7 @@ pub extern "C" fn panel_paint(
     changed: &mut u32,
     stale: &mut u32,
 ) -> u32
-    ensures { λ r. ⌜ Paints screen3 (width (now (header .entry))) (height (now (header .entry)))
+    ensures { λ r. ⌜ Paints screen3 (headerOf (now (header .entry)))
         (now (picture .entry)) (now (marks .entry)) column row word
         (record {
           picture = now (picture .exit);
@@ -54,10 +89,7 @@ pub extern "C" fn panel_paint(
           stale = now (stale .exit);
         }) ⌝ }
 {
-    let session = Session {
-        w: header[0],
-        h: header[1],
-    };
+    let session = session_of(header);
     let painted = session.paint(picture, marks, column, row, word);
     *changed = painted.changed;
     *stale = painted.stale;
@@ -67,7 +99,7 @@ pub extern "C" fn panel_paint(
 // The first n stale blocks drawn.
 #[no_mangle]
 pub extern "C" fn panel_refresh(
-    header: &[u32; 2],
+    header: &[u32; 6],
     picture: &[u32],
     output: &mut [u32],
     marks: &mut [u8],
@@ -75,7 +107,7 @@ pub extern "C" fn panel_refresh(
     drawn: &mut u32,
     left: &mut u32,
 ) -> u32
-    ensures { λ r. ⌜ Refreshes screen3 (width (now (header .entry))) (height (now (header .entry)))
+    ensures { λ r. ⌜ Refreshes screen3 (headerOf (now (header .entry)))
         (now (picture .entry)) (now (output .entry)) (now (marks .entry)) n
         (record {
           output = now (output .exit);
@@ -85,10 +117,7 @@ pub extern "C" fn panel_refresh(
           left = now (left .exit);
         }) ⌝ }
 {
-    let session = Session {
-        w: header[0],
-        h: header[1],
-    };
+    let session = session_of(header);
     let refreshed = session.refresh(picture, output, marks, n);
     *drawn = refreshed.drawn;
     *left = refreshed.left;
@@ -98,23 +127,44 @@ pub extern "C" fn panel_refresh(
 // The nine words of a block.
 #[no_mangle]
 pub extern "C" fn panel_show(
-    header: &[u32; 2],
+    header: &[u32; 6],
     output: &[u32],
     marks: &[u8],
     bx: u32,
     by: u32,
     words: &mut [u32; 9],
 ) -> u32
-    ensures { λ r. ⌜ Shows screen3 (width (now (header .entry))) (height (now (header .entry)))
+    ensures { λ r. ⌜ Shows screen3 (headerOf (now (header .entry)))
         (now (output .entry)) (now (marks .entry)) bx by
         (record { refusal = r; words = now (words .exit) }) ⌝ }
 {
-    let session = Session {
-        w: header[0],
-        h: header[1],
-    };
+    let session = session_of(header);
     let shown = session.show(output, marks, bx, by);
     let block = shown.words;
     *words = block;
     shown.refusal
+}
+
+// The header with another rectangle locked.
+#[no_mangle]
+pub extern "C" fn panel_lock(
+    header: &[u32; 6],
+    left: u32,
+    top: u32,
+    width: u32,
+    height: u32,
+    locked: &mut [u32; 6],
+) -> u32
+    ensures { λ r. ⌜ Locks screen3 (headerOf (now (header .entry))) (record { left = left; top = top; width = width; height = height })
+        (record { refusal = r; header = headerOf (now (locked .exit)) }) ⌝ }
+{
+    let session = session_of(header);
+    let answer = session.lock(Rectangle {
+        left,
+        top,
+        width,
+        height,
+    });
+    *locked = numbers_of(answer.session);
+    answer.refusal
 }
