@@ -15,7 +15,7 @@ use Rattle.header.specs.Header.{past, fresh, withLock, noHeader}
 use Rattle.machine.specs.Lists.{stamp, setAll, count, first}
 use Rattle.machine.specs.Screen.{Screen, blockWords}
 use Rattle.machine.specs.Machine.{inside, names, putAll, blockAt}
-use Rattle.machine.specs.Calls.{isStale, staleOf, sideLong, refusalAll, refusalPaint, refusalShow, refusalLock}
+use Rattle.machine.specs.Calls.{isStale, staleOf, sideLong, refusalHeader, refusalAll, refusalPaint, refusalShow, refusalLock}
 use Rattle.machine.specs.Calls.{openEnd, paintEnd, refreshEnd, showEnd, lockEnd, Opens, Paints, Refreshes, Shows, Locks}
 use Rattle.machine.specs.Lent.{Lent, LentPaint, LentShow}
 use Rattle.machine.proofs.Places.{block-lt, area}
@@ -42,14 +42,28 @@ small side w h l e = let s = sides side w h e in area w h (omega (arith, s .0)) 
 pub small-words : (side words w h : ℕ) → (side ≤ 2048) × (words ≤ 81) → sideLong side w h ≡ false → words * (w * h) ≤ 81 * 4194304
 small-words side words w h l e = mul-le-mul (l .1) (small side w h (l .0) e)
 
+-- the header's two checks, where they refuse nothing
+pub header-tests : (side : ℕ) (header : Header) → refusalHeader side header 0 ≡ 0
+    → (sideLong side (header .w) (header .h) ≡ false) × (past (header .w) (header .h) (header .lock) ≡ false)
+header-tests side header e =
+    let q = unmet (sideLong side (header .w) (header .h)) 0 _ e in (q .0, unmet (past (header .w) (header .h) (header .lock)) 9 0 (q .1) .0)
+
+-- and where they do, whatever would come next
+pub header-refused : (side : ℕ) (header : Header) (f x : ℕ) → f ≡ refusalHeader side header 0 → (f ≡ 0 → ⊥) → f ≡ refusalHeader side header x
+header-refused side header f x e z = by-tests (sideLong side (header .w) (header .h)) (past (header .w) (header .h) (header .lock)) e
+  where
+    by-tests : (a b : Bool) → f ≡ cond a 1 (cond b 10 0) → f ≡ cond a 1 (cond b 10 x)
+    by-tests true b e = e
+    by-tests false true e = e
+    by-tests false false e = absurd (z e)
+
 in-it : (i : Bool) (m n : ℕ) → cond i m (suc n) ≡ 0 → i ≡ true
 in-it true m n e = refl
 in-it false m n e = absurd (omega arith)
 
 module _ (S : Screen) (header : Header) where
   -- the header's two checks, and then what follows them
-  header-lent : (x : ℕ) → cond (sideLong (S .side) (header .w) (header .h)) 1 (cond (past (header .w) (header .h) (header .lock)) 10 x) ≡ 0
-      → (header .w ≤ S .side) × (header .h ≤ S .side) × (x ≡ 0)
+  header-lent : (x : ℕ) → refusalHeader (S .side) header x ≡ 0 → (header .w ≤ S .side) × (header .h ≤ S .side) × (x ≡ 0)
   header-lent x e =
       let q = unmet (sideLong (S .side) (header .w) (header .h)) 0 _ e in
       let s = sides (S .side) (header .w) (header .h) (q .0) in

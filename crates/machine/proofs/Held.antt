@@ -17,7 +17,7 @@ use Rattle.machine.specs.Lists.{stamp, setAll, count, first}
 use Rattle.machine.specs.Screen.{Screen, Lawful, blockWords, place}
 use Rattle.machine.specs.Machine.{State, Paint, Refresh, Show, Lock, Answer, Painted, Refreshed, Shown, Locked, inside, names, putWords, putBlock, putAll, blockAt}
 use Rattle.machine.specs.Machine.{store, redraw, headerOf, relock, step}
-use Rattle.machine.specs.Calls.{isStale, staleOf, sideLong, refusalAll, refusalPaint, refusalShow, PaintEnd, RefreshEnd, ShowEnd, LockEnd}
+use Rattle.machine.specs.Calls.{isStale, staleOf, sideLong, refusalHeader, refusalAll, refusalPaint, refusalShow, PaintEnd, RefreshEnd, ShowEnd, LockEnd}
 use Rattle.machine.specs.Calls.{paintEnd, refreshEnd, showEnd, lockEnd, Paints, Refreshes, Shows, Locks}
 use Rattle.machine.specs.Demand3.{Buffers, byteOf, latest}
 use Rattle.machine.proofs.Places.{block-lt, spot-lt}
@@ -111,7 +111,7 @@ module _ (S : Screen) (L : Lawful S) (w h : ℕ) (sides : sideLong (S .side) w h
   header = headerOf w h s
 
   -- the header is not refused
-  header-taken : (x : ℕ) → cond (sideLong (S .side) w h) 1 (cond (past w h (s .lock)) 10 x) ≡ x
+  header-taken : (x : ℕ) → refusalHeader (S .side) header x ≡ x
   header-taken x = beyond (sideLong (S .side) w h) (past w h (s .lock)) 1 10 x sides (g .lock-inside)
 
   refusal-none : refusalAll (S .side) (blockWords S) header (length (s .picture ++ tp)) (length (s .output ++ to)) (length (bytes s ++ tm)) ≡ 0

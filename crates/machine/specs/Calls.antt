@@ -59,49 +59,47 @@ pub record LockEnd : Type 0 where
 abbrev pub sideLong : ℕ → ℕ → ℕ → Bool
 sideLong side w h = ltb side w || ltb side h
 
+-- of every call, by the header that it is lent: 1, then 10; where neither is so, next decides
+abbrev pub refusalHeader : ℕ → Header → ℕ → ℕ
+refusalHeader side header next =
+    cond (sideLong side (header .w) (header .h)) refusal.side (cond (past (header .w) (header .h) (header .lock)) refusal.lock next)
+
 module _ (side words : ℕ) (header : Header) where
   -- of a call that is lent all three buffers: opening, for the header that it is to answer, and refresh
   abbrev pub refusalAll : ℕ → ℕ → ℕ → ℕ
   refusalAll p o m =
       let n = header .w * header .h in
-      cond (sideLong side (header .w) (header .h)) refusal.side
-      (cond (past (header .w) (header .h) (header .lock)) refusal.lock
+      refusalHeader side header
       (cond (ltb p n) refusal.picture
       (cond (ltb o (words * n)) refusal.output
-      (cond (ltb m n) refusal.scratch refusal.none))))
+      (cond (ltb m n) refusal.scratch refusal.none)))
 
   -- of show, which looks at the block's mark too
   abbrev pub refusalShow : ℕ → List ℕ → ℕ → ℕ → ℕ
   refusalShow o marks bx by =
       let n = header .w * header .h in
-      cond (sideLong side (header .w) (header .h)) refusal.side
-      (cond (past (header .w) (header .h) (header .lock)) refusal.lock
+      refusalHeader side header
       (cond (ltb o (words * n)) refusal.output
       (cond (ltb (length marks) n) refusal.scratch
       (cond (inside (header .w) (header .h) bx by)
       (cond (isStale (getD marks (by * header .w + bx) 0)) refusal.stale refusal.none)
-      refusal.outside))))
+      refusal.outside)))
 
 module _ (side : ℕ) (header : Header) where
   -- of paint, which is lent no output and looks at the word that is there: an equal one is not refused, be it locked or not
   abbrev pub refusalPaint : List ℕ → ℕ → ℕ → ℕ → ℕ → ℕ
   refusalPaint picture m column row word =
       let n = header .w * header .h in
-      cond (sideLong side (header .w) (header .h)) refusal.side
-      (cond (past (header .w) (header .h) (header .lock)) refusal.lock
-      (cond (ltb (length picture) n) refusal.picture
-      (cond (ltb m n) refusal.scratch
+      refusalHeader side header
+      (cond (ltb (length picture) n) refusal.picture (cond (ltb m n) refusal.scratch
       (cond (inside (header .w) (header .h) column row)
       (cond (eqb word (getD picture (row * header .w + column) 0)) refusal.none
       (cond (locked (header .lock) column row) refusal.locked refusal.none))
-      refusal.outside))))
+      refusal.outside)))
 
   -- of a lock, which is lent the header alone and given a rectangle
   abbrev pub refusalLock : Rectangle → ℕ
-  refusalLock lock =
-      cond (sideLong side (header .w) (header .h)) refusal.side
-      (cond (past (header .w) (header .h) (header .lock)) refusal.lock
-      (cond (past (header .w) (header .h) lock) refusal.lock refusal.none))
+  refusalLock lock = refusalHeader side header (cond (past (header .w) (header .h) lock) refusal.lock refusal.none)
 
 -- ---- opening: output words 0 and marks 1, as many as the picture asks for
 unfoldable pub openEnd : Screen → ℕ → ℕ → List ℕ → List ℕ → List ℕ → OpenEnd

@@ -8,7 +8,8 @@ use header::past;
 use picture::refusal;
 ghost use mathlib.Core.Path.{_≡_};
 ghost use Prim.Native.Nat.{_≤_};
-ghost use Rattle.machine.specs.Calls.{sideLong, refusalAll, refusalPaint, refusalShow, refusalLock};
+ghost use Rattle.picture.specs.Refusal.{none};
+ghost use Rattle.machine.specs.Calls.{sideLong, refusalHeader, refusalAll, refusalPaint, refusalShow, refusalLock};
 
 // A side past its limit.
 fn side_long(side: u32, w: u32, h: u32) -> bool
@@ -17,19 +18,30 @@ fn side_long(side: u32, w: u32, h: u32) -> bool
     (side < w) | (side < h)
 }
 
+// Of every call, by its header.
+fn refuse_header(side: u32, header: Header) -> u32
+    ensures { λ r. ⌜ r ≡ refusalHeader side header none ⌝ }
+{
+    if side_long(side, header.w, header.h) {
+        return refusal::SIDE;
+    }
+    if past(header.w, header.h, header.lock) {
+        return refusal::LOCK;
+    }
+    refusal::NONE
+}
+
 // Of a call that is lent all three buffers.
 pub fn refuse_all(side: u32, words: usize, header: Header, p: usize, o: usize, m: usize) -> u32
     requires { ⌜ (side ≤ 2048) × (words ≤ 81) ⌝ }
     ensures { λ r. ⌜ r ≡ refusalAll side words header p o m ⌝ }
 {
+    let first = refuse_header(side, header);
+    if first != 0 {
+        return first;
+    }
     let w = header.w;
     let h = header.h;
-    if side_long(side, w, h) {
-        return refusal::SIDE;
-    }
-    if past(w, h, header.lock) {
-        return refusal::LOCK;
-    }
     let n = (w as usize) * (h as usize);
     if p < n {
         return refusal::PICTURE;
@@ -56,14 +68,12 @@ pub fn refuse_paint(
     requires { ⌜ side ≤ 2048 ⌝ }
     ensures { λ r. ⌜ r ≡ refusalPaint side header (now (picture .entry)) m column row word ⌝ }
 {
+    let first = refuse_header(side, header);
+    if first != 0 {
+        return first;
+    }
     let w = header.w;
     let h = header.h;
-    if side_long(side, w, h) {
-        return refusal::SIDE;
-    }
-    if past(w, h, header.lock) {
-        return refusal::LOCK;
-    }
     let n = (w as usize) * (h as usize);
     if picture.len() < n {
         return refusal::PICTURE;
@@ -94,14 +104,12 @@ pub fn refuse_show(
     requires { ⌜ (side ≤ 2048) × (words ≤ 81) ⌝ }
     ensures { λ r. ⌜ r ≡ refusalShow side words header o (now (marks .entry)) bx by ⌝ }
 {
+    let first = refuse_header(side, header);
+    if first != 0 {
+        return first;
+    }
     let w = header.w;
     let h = header.h;
-    if side_long(side, w, h) {
-        return refusal::SIDE;
-    }
-    if past(w, h, header.lock) {
-        return refusal::LOCK;
-    }
     let n = (w as usize) * (h as usize);
     if o < words * n {
         return refusal::OUTPUT;
@@ -122,15 +130,11 @@ pub fn refuse_show(
 pub fn refuse_lock(side: u32, header: Header, lock: Rectangle) -> u32
     ensures { λ r. ⌜ r ≡ refusalLock side header lock ⌝ }
 {
-    let w = header.w;
-    let h = header.h;
-    if side_long(side, w, h) {
-        return refusal::SIDE;
+    let first = refuse_header(side, header);
+    if first != 0 {
+        return first;
     }
-    if past(w, h, header.lock) {
-        return refusal::LOCK;
-    }
-    if past(w, h, lock) {
+    if past(header.w, header.h, lock) {
         return refusal::LOCK;
     }
     refusal::NONE

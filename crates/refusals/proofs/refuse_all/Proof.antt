@@ -1,25 +1,22 @@
 -- `refusals::refuse_all` meets its contract. Assumes nothing.
-use mathlib.Core.Path.{sym, _∙_}
+use mathlib.Core.Path.{_≡_, sym, _∙_}
+use mathlib.Core.Bool.{false}
 use native.Mathlib.Omega.{arith}
 use borrow.Author.Tests.{lt-ltb, le-ltb}
-use Rattle.machine.proofs.Ends.{small, small-words}
+use Rattle.header.specs.Header.{past}
+use Rattle.machine.specs.Calls.{sideLong}
+use Rattle.machine.proofs.Ends.{header-tests, header-refused, small, small-words}
 use borrow.Author.Needs.{needs}
 use Rattle.refusals.proofs.refuse_all.Statement.{statement}
 use Rattle.refusals.proofs.refuse_all.Tie as tie
 
-side-long-requires : tie.Need-side-long-requires
-side-long-requires c κs = search needs
+refuse-header-requires : tie.Need-refuse-header-requires
+refuse-header-requires c κs = search needs
 
 returns : tie.Need-returns
-returns c = rw (← c .before .side-long .ensures, c .if1 .taken)
-
-past-requires : tie.Need-past-requires
-past-requires c κs = search needs
-
-returns-2 : tie.Need-returns-2
-returns-2 c =
-    let k = c .before .before in
-    rw (← k .before .side-long .ensures, k .if1 .left, ← c .before .past .ensures, c .if2 .taken)
+returns c =
+    let a = c .before .before .args in
+    header-refused (a .side) (a .header) (c .before .refuse-header .result) _ (c .before .refuse-header .ensures) (c .if1 .taken)
 
 cast-n : tie.Need-cast-n
 cast-n c = search needs
@@ -27,52 +24,58 @@ cast-n c = search needs
 cast-n-2 : tie.Need-cast-n-2
 cast-n-2 c = search needs
 
+-- the header's two checks refuse nothing
+abbrev Passed : tie.Start → Type 0
+Passed s =
+    let a = s .args in
+    (sideLong (a .side) (a .header .w) (a .header .h) ≡ false) × (past (a .header .w) (a .header .h) (a .header .lock) ≡ false)
+
+passed : (c : tie.Else1) → Passed (c .before .before)
+passed c = let a = c .before .before .args in header-tests (a .side) (a .header) (sym (c .before .refuse-header .ensures) ∙ c .if1 .left)
+
 mul-n : tie.Need-mul-n
 mul-n c =
-    let s = c .before .before .before .before in
+    let s = c .before .before in
     let a = s .args in
-    omega (arith, small (a .side) (a .header .w) (a .header .h) (s .pre .0) (sym (c .before .before .before .side-long .ensures) ∙ c .before .before .if1 .left))
+    omega (arith, small (a .side) (a .header .w) (a .header .h) (s .pre .0) (passed c .0))
+
+returns-2 : tie.Need-returns-2
+returns-2 c =
+    let t = passed (c .before) in
+    rw (t .0, t .1, lt-ltb _ _ (c .if2 .taken))
+
+mul-if3 : tie.Need-mul-if3
+mul-if3 c =
+    let s = c .before .before .before in
+    let a = s .args in
+    omega (arith, small-words (a .side) (a .words) (a .header .w) (a .header .h) (s .pre) (passed (c .before) .0))
 
 returns-3 : tie.Need-returns-3
 returns-3 c =
-    let k = c .before in
-    rw (← k .before .before .before .side-long .ensures, k .before .before .if1 .left, ← k .before .past .ensures, k .if2 .left, lt-ltb _ _ (c .if3 .taken))
-
-mul-if4 : tie.Need-mul-if4
-mul-if4 c =
-    let k = c .before in
-    let s = k .before .before .before .before in
-    let a = s .args in
-    omega (arith, small-words (a .side) (a .words) (a .header .w) (a .header .h) (s .pre) (sym (k .before .before .before .side-long .ensures) ∙ k .before .before .if1 .left))
+    let t = passed (c .before .before) in
+    rw (t .0, t .1, le-ltb _ _ (c .before .if2 .left), lt-ltb _ _ (c .if3 .taken))
 
 returns-4 : tie.Need-returns-4
 returns-4 c =
-    let k = c .before .before in
-    rw (← k .before .before .before .side-long .ensures, k .before .before .if1 .left, ← k .before .past .ensures, k .if2 .left, le-ltb _ _ (c .before .if3 .left), lt-ltb _ _ (c .if4 .taken))
+    let t = passed (c .before .before .before) in
+    rw (t .0, t .1, le-ltb _ _ (c .before .before .if2 .left), le-ltb _ _ (c .before .if3 .left), lt-ltb _ _ (c .if4 .taken))
 
 returns-5 : tie.Need-returns-5
 returns-5 c =
-    let k = c .before .before .before in
-    rw (← k .before .before .before .side-long .ensures, k .before .before .if1 .left, ← k .before .past .ensures, k .if2 .left, le-ltb _ _ (c .before .before .if3 .left), le-ltb _ _ (c .before .if4 .left), lt-ltb _ _ (c .if5 .taken))
-
-returns-6 : tie.Need-returns-6
-returns-6 c =
-    let k = c .before .before .before in
-    rw (← k .before .before .before .side-long .ensures, k .before .before .if1 .left, ← k .before .past .ensures, k .if2 .left, le-ltb _ _ (c .before .before .if3 .left), le-ltb _ _ (c .before .if4 .left), le-ltb _ _ (c .if5 .left))
+    let t = passed (c .before .before .before) in
+    rw (t .0, t .1, le-ltb _ _ (c .before .before .if2 .left), le-ltb _ _ (c .before .if3 .left), le-ltb _ _ (c .if4 .left))
 
 pub refuse-all-spec : {M : Type 1} → statement M
 refuse-all-spec =
     tie.close
     (tie.spec
-    side-long-requires
+    refuse-header-requires
     returns
-    past-requires
-    returns-2
     cast-n
     cast-n-2
     mul-n
+    returns-2
+    mul-if3
     returns-3
-    mul-if4
     returns-4
-    returns-5
-    returns-6)
+    returns-5)

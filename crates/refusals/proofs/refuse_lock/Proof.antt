@@ -1,34 +1,43 @@
 -- `refusals::refuse_lock` meets its contract. Assumes nothing.
+use mathlib.Core.Path.{_≡_, sym, _∙_}
+use mathlib.Core.Bool.{false}
+use Rattle.header.specs.Header.{past}
+use Rattle.machine.specs.Calls.{sideLong}
+use Rattle.machine.proofs.Ends.{header-tests, header-refused}
 use borrow.Author.Needs.{needs}
 use Rattle.refusals.proofs.refuse_lock.Statement.{statement}
 use Rattle.refusals.proofs.refuse_lock.Tie as tie
 
-side-long-requires : tie.Need-side-long-requires
-side-long-requires c κs = search needs
+refuse-header-requires : tie.Need-refuse-header-requires
+refuse-header-requires c κs = search needs
 
 returns : tie.Need-returns
-returns c = rw (← c .before .side-long .ensures, c .if1 .taken)
+returns c =
+    let a = c .before .before .args in
+    header-refused (a .side) (a .header) (c .before .refuse-header .result) _ (c .before .refuse-header .ensures) (c .if1 .taken)
+
+-- the header's two checks refuse nothing
+abbrev Passed : tie.Start → Type 0
+Passed s =
+    let a = s .args in
+    (sideLong (a .side) (a .header .w) (a .header .h) ≡ false) × (past (a .header .w) (a .header .h) (a .header .lock) ≡ false)
+
+passed : (c : tie.Else1) → Passed (c .before .before)
+passed c = let a = c .before .before .args in header-tests (a .side) (a .header) (sym (c .before .refuse-header .ensures) ∙ c .if1 .left)
 
 past-requires : tie.Need-past-requires
 past-requires c κs = search needs
 
 returns-2 : tie.Need-returns-2
 returns-2 c =
-    let k = c .before .before in
-    rw (← k .before .side-long .ensures, k .if1 .left, ← c .before .past .ensures, c .if2 .taken)
-
-past-requires-2 : tie.Need-past-requires-2
-past-requires-2 c κs = search needs
+    let t = passed (c .before .before) in
+    rw (t .0, t .1, ← c .before .past .ensures, c .if2 .taken)
 
 returns-3 : tie.Need-returns-3
 returns-3 c =
-    let k = c .before .before in
-    rw (← k .before .before .before .side-long .ensures, k .before .before .if1 .left, ← k .before .past .ensures, k .if2 .left, ← c .before .past2 .ensures, c .if3 .taken)
-
-returns-4 : tie.Need-returns-4
-returns-4 c =
-    let k = c .before .before in
-    rw (← k .before .before .before .side-long .ensures, k .before .before .if1 .left, ← k .before .past .ensures, k .if2 .left, ← c .before .past2 .ensures, c .if3 .left)
+    let t = passed (c .before .before) in
+    rw (t .0, t .1, ← c .before .past .ensures, c .if2 .left)
 
 pub refuse-lock-spec : {M : Type 1} → statement M
-refuse-lock-spec = tie.close (tie.spec side-long-requires returns past-requires returns-2 past-requires-2 returns-3 returns-4)
+refuse-lock-spec =
+    tie.close (tie.spec refuse-header-requires returns past-requires returns-2 returns-3)
