@@ -1,15 +1,19 @@
-// A session of 32 by 32 at the edges of docs/RULES.md: each line is what a call answered.
+// Sessions at the edges of docs/RULES.md: each line is what a call answered.
+use header::Header;
+use header::Rectangle;
 use libc::STDOUT_FILENO;
 use session::Session;
 
+fn number(n: u32) {
+    io::write_all(STDOUT_FILENO, b" ");
+    io::print_decimal(STDOUT_FILENO, n as u64);
+}
+
 fn line(name: &[u8], a: u32, b: u32, c: u32) {
     io::write_all(STDOUT_FILENO, name);
-    io::write_all(STDOUT_FILENO, b" ");
-    io::print_decimal(STDOUT_FILENO, a as u64);
-    io::write_all(STDOUT_FILENO, b" ");
-    io::print_decimal(STDOUT_FILENO, b as u64);
-    io::write_all(STDOUT_FILENO, b" ");
-    io::print_decimal(STDOUT_FILENO, c as u64);
+    number(a);
+    number(b);
+    number(c);
     io::write_all(STDOUT_FILENO, b"\n");
 }
 
@@ -35,13 +39,84 @@ fn show(session: Session, output: &[u32], marks: &[u8], bx: u32, by: u32) {
     line(b"show", s.refusal, s.words[0], s.words[4]);
 }
 
+// The rectangle locked, and the session that later calls are lent: the one answered, or after a refusal the one before.
+fn lock(session: Session, left: u32, top: u32, width: u32, height: u32) -> Session {
+    let l = session.lock(Rectangle {
+        left,
+        top,
+        width,
+        height,
+    });
+    let header = l.session.header;
+    let lock = header.lock;
+    io::write_all(STDOUT_FILENO, b"lock");
+    number(l.refusal);
+    number(header.w);
+    number(header.h);
+    number(lock.left);
+    number(lock.top);
+    number(lock.width);
+    number(lock.height);
+    io::write_all(STDOUT_FILENO, b"\n");
+    if l.refusal != 0 {
+        return session;
+    }
+    l.session
+}
+
+// Locks at the borders of a picture of 4 by 3.
+fn locks() {
+    let mut picture = [1u32; 12];
+    let mut output = [7u32; 108];
+    let mut marks = [3u8; 12];
+    let o = Session::open(4, 3, &picture, &mut output, &mut marks);
+    refresh(o.session, &picture, &mut output, &mut marks, 12);
+    // It touches the right and the bottom border: refused inside, unchanged at an equal word, taken to its left and above it.
+    let s = lock(o.session, 2, 1, 2, 2);
+    paint(s, &mut picture, &mut marks, 2, 1, 5);
+    paint(s, &mut picture, &mut marks, 3, 2, 5);
+    paint(s, &mut picture, &mut marks, 3, 2, 1);
+    paint(s, &mut picture, &mut marks, 1, 1, 5);
+    paint(s, &mut picture, &mut marks, 2, 0, 5);
+    // One column and one row past the picture, and a sum that 32 bits do not hold: refused, and the lock before stays.
+    let t = lock(s, 3, 1, 2, 2);
+    let u = lock(t, 2, 2, 1, 2);
+    let v = lock(u, 4294967295, 0, 2, 1);
+    paint(v, &mut picture, &mut marks, 3, 2, 5);
+    // Of width 0: answered as given, and nothing is locked.
+    let n = lock(v, 4294967295, 4294967295, 0, 7);
+    paint(n, &mut picture, &mut marks, 3, 2, 5);
+}
+
+// A header that no call answered: its lock reaches past the picture.
+fn wild() {
+    let picture = [0u32; 4];
+    let mut output = [7u32; 36];
+    let mut marks = [0u8; 4];
+    let s = Session {
+        header: Header {
+            w: 2,
+            h: 2,
+            lock: Rectangle {
+                left: 1,
+                top: 0,
+                width: 2,
+                height: 1,
+            },
+        },
+    };
+    refresh(s, &picture, &mut output, &mut marks, 4);
+    show(s, &output, &marks, 0, 0);
+    lock(s, 0, 0, 0, 0);
+}
+
 // A side past the limit.
 fn too_wide() {
     let picture = [0u32; 4];
     let mut output = [7u32; 36];
     let mut marks = [3u8; 4];
     let o = Session::open(2049, 1, &picture, &mut output, &mut marks);
-    line(b"open", o.refusal, o.session.w, o.stale);
+    line(b"open", o.refusal, o.session.header.w, o.stale);
 }
 
 fn main() {
@@ -50,7 +125,7 @@ fn main() {
     let mut marks = [0u8; 1024];
     let o = Session::open(32, 32, &picture, &mut output, &mut marks);
     let s = o.session;
-    line(b"open", o.refusal, s.w, o.stale);
+    line(b"open", o.refusal, s.header.w, o.stale);
     show(s, &output, &marks, 0, 0);
     refresh(s, &picture, &mut output, &mut marks, 0);
     refresh(s, &picture, &mut output, &mut marks, 4294967295);
@@ -69,4 +144,6 @@ fn main() {
     show(s, &output, &marks, 31, 31);
     show(s, &output, &marks, 0, 32);
     too_wide();
+    locks();
+    wild();
 }

@@ -230,12 +230,11 @@ impl Session {
     {
         let header = self.header;
         let refusal = refuse_lock(Session::SIDE, header, lock);
+        let none = no_header();
         if refusal != 0 {
             return Locked {
                 refusal,
-                session: Session {
-                    header: no_header(),
-                },
+                session: Session { header: none },
             };
         }
         Locked {

@@ -18,13 +18,13 @@ returns : tie.Need-returns
 returns c =
     let r = c .before .before .refuse-lock in
     let a = c .before .before .before .before .args in
-    subst (λ (k : Header). Locks screen3 (a .self .header) (a .lock) (record { refusal = r .result; header = k })) (sym (c .no-header .ensures))
-    (lock-refused screen3 (a .self .header) (a .lock) (r .result) (r .ensures) (c .before .if1 .taken))
+    subst (λ (k : Header). Locks screen3 (a .self .header) (a .lock) (record { refusal = r .result; header = k })) (sym (c .before .no-header .ensures))
+    (lock-refused screen3 (a .self .header) (a .lock) (r .result) (r .ensures) (c .if1 .taken))
 
 returns-2 : tie.Need-returns-2
 returns-2 c =
-    let r = c .before .refuse-lock in
-    let a = c .before .before .before .args in
+    let r = c .before .before .refuse-lock in
+    let a = c .before .before .before .before .args in
     lock-done screen3 (a .self .header) (a .lock) (r .result) (r .ensures) (c .if1 .left)
 
 pub lock-spec : {M : Type 1} → statement M
