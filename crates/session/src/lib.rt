@@ -95,12 +95,11 @@ impl Session {
             output.len(),
             marks.len(),
         );
+        let none = no_header();
         if refusal != 0 {
             return Opened {
                 refusal,
-                session: Session {
-                    header: no_header(),
-                },
+                session: Session { header: none },
                 stale: 0,
             };
         }
@@ -230,11 +229,11 @@ impl Session {
     {
         let header = self.header;
         let refusal = refuse_lock(Session::SIDE, header, lock);
-        let none = no_header();
+        let refused = no_header();
         if refusal != 0 {
             return Locked {
                 refusal,
-                session: Session { header: none },
+                session: Session { header: refused },
             };
         }
         Locked {

@@ -40,23 +40,23 @@ returns c =
     let a = r .before .before .before .before .before .args in
     subst (λ (k : Header). Opens screen3 (a .w) (a .h) (a .picture .now) (a .output .now) (a .marks .now)
     (record { output = a .output .now; marks = a .marks .now; refusal = r .refuse-all .result; header = k; stale = 0 }))
-    (sym (c .no-header .ensures))
-    (open-refused screen3 (a .w) (a .h) (a .picture .now) (a .output .now) (a .marks .now) (r .refuse-all .result) (refused-of r) (c .before .if1 .taken))
+    (sym (c .before .no-header .ensures))
+    (open-refused screen3 (a .w) (a .h) (a .picture .now) (a .output .now) (a .marks .now) (r .refuse-all .result) (refused-of r) (c .if1 .taken))
 
 abbrev LentAt : tie.Start → Type 0
 LentAt s = let a = s .args in Lent screen3 (a .w) (a .h) (length (a .picture .now)) (length (a .output .now)) (length (a .marks .now))
 
-lent-of : (c : tie.Else1) → LentAt (c .before .before .before .before .before .before)
+lent-of : (c : tie.Else1) → LentAt (c .before .before .before .before .before .before .before)
 lent-of c =
-    let a = c .before .before .before .before .before .before .args in
+    let a = c .before .before .before .before .before .before .before .args in
     lent screen3 (fresh (a .w) (a .h)) (length (a .picture .now)) (length (a .output .now)) (length (a .marks .now))
-    (sym (refused-of (c .before)) ∙ c .if1 .left)
+    (sym (refused-of (c .before .before)) ∙ c .if1 .left)
 
 abbrev SmallAt : tie.Start → Type 0
 SmallAt s = s .args .w * s .args .h ≤ 4194304
 
-small-of : (c : tie.Else1) → SmallAt (c .before .before .before .before .before .before)
-small-of c = let a = c .before .before .before .before .before .before .args in area (a .w) (a .h) (lent-of c .wide) (lent-of c .high)
+small-of : (c : tie.Else1) → SmallAt (c .before .before .before .before .before .before .before)
+small-of c = let a = c .before .before .before .before .before .before .before .args in area (a .w) (a .h) (lent-of c .wide) (lent-of c .high)
 
 mul-n : tie.Need-mul-n
 mul-n c = omega (arith, small-of c)
@@ -84,11 +84,11 @@ returns-2 c =
     let marked = c .before .before .mark-run in
     let filled = c .before .before .before .before .before .before .fill-words in
     let k = c .before .before .before .before .before .before .before .before in
-    let a = k .before .before .before .before .before .before .args in
+    let a = k .before .before .before .before .before .before .before .args in
     subst (λ (l : Header). Opens screen3 (a .w) (a .h) (a .picture .now) (a .output .now) (a .marks .now)
     (record { output = filled .last .0; marks = marked .last .0; refusal = 0; header = l; stale = a .w * a .h }))
-    (sym (k .before .before .fresh .ensures))
-    (open-done screen3 (a .w) (a .h) (a .picture .now) (a .output .now) (a .marks .now) (k .before .refuse-all .result) (refused-of (k .before))
+    (sym (k .before .before .before .fresh .ensures))
+    (open-done screen3 (a .w) (a .h) (a .picture .now) (a .output .now) (a .marks .now) (k .before .before .refuse-all .result) (refused-of (k .before .before))
     (k .if1 .left) (filled .last .0) (marked .last .0) (filled .ensures) (marked .ensures ∙ run-start (a .w * a .h) (a .marks .now) (lent-of k .for-marks)))
 
 pub open-spec : {M : Type 1} → statement M
