@@ -4,8 +4,11 @@
 
 use std::os::raw::c_float;
 
+/// A session's header: w, h, and left, top, width and height of the lock.
+pub type Header = [u32; 6];
+
 mod c {
-    use super::c_float;
+    use super::{c_float, Header};
 
     extern "C" {
         pub fn panel_root(x: c_float, root: *mut c_float) -> u32;
@@ -45,11 +48,11 @@ mod c {
             output_len: usize,
             marks: *mut u8,
             marks_len: usize,
-            header: *mut [u32; 2],
+            header: *mut Header,
             stale: *mut u32,
         ) -> u32;
         pub fn panel_paint(
-            header: *const [u32; 2],
+            header: *const Header,
             picture: *mut u32,
             picture_len: usize,
             marks: *mut u8,
@@ -61,7 +64,7 @@ mod c {
             stale: *mut u32,
         ) -> u32;
         pub fn panel_refresh(
-            header: *const [u32; 2],
+            header: *const Header,
             picture: *const u32,
             picture_len: usize,
             output: *mut u32,
@@ -73,7 +76,7 @@ mod c {
             left: *mut u32,
         ) -> u32;
         pub fn panel_show(
-            header: *const [u32; 2],
+            header: *const Header,
             output: *const u32,
             output_len: usize,
             marks: *const u8,
@@ -81,6 +84,14 @@ mod c {
             bx: u32,
             by: u32,
             words: *mut [u32; 9],
+        ) -> u32;
+        pub fn panel_lock(
+            header: *const Header,
+            left: u32,
+            top: u32,
+            width: u32,
+            height: u32,
+            locked: *mut Header,
         ) -> u32;
         pub fn panel_read_page(
             file: *const u8,
@@ -153,12 +164,12 @@ pub fn scale9x(
 #[derive(Debug, PartialEq, Eq)]
 pub struct Opened {
     pub refusal: u32,
-    pub header: [u32; 2],
+    pub header: Header,
     pub stale: u32,
 }
 
 pub fn open(w: u32, h: u32, picture: &[u32], output: &mut [u32], marks: &mut [u8]) -> Opened {
-    let mut header = [UNWRITTEN; 2];
+    let mut header = [UNWRITTEN; 6];
     let mut stale = UNWRITTEN;
     let refusal = unsafe {
         c::panel_open(
@@ -184,7 +195,7 @@ pub struct Painted {
     pub stale: u32,
 }
 
-pub fn paint(header: [u32; 2], picture: &mut [u32], marks: &mut [u8], column: u32, row: u32, word: u32) -> Painted {
+pub fn paint(header: Header, picture: &mut [u32], marks: &mut [u8], column: u32, row: u32, word: u32) -> Painted {
     let (mut changed, mut stale) = (UNWRITTEN, UNWRITTEN);
     let refusal = unsafe {
         c::panel_paint(
@@ -210,7 +221,7 @@ pub struct Refreshed {
     pub left: u32,
 }
 
-pub fn refresh(header: [u32; 2], picture: &[u32], output: &mut [u32], marks: &mut [u8], n: u32) -> Refreshed {
+pub fn refresh(header: Header, picture: &[u32], output: &mut [u32], marks: &mut [u8], n: u32) -> Refreshed {
     let (mut drawn, mut left) = (UNWRITTEN, UNWRITTEN);
     let refusal = unsafe {
         c::panel_refresh(
@@ -235,12 +246,24 @@ pub struct Shown {
     pub words: [u32; 9],
 }
 
-pub fn show(header: [u32; 2], output: &[u32], marks: &[u8], bx: u32, by: u32) -> Shown {
+pub fn show(header: Header, output: &[u32], marks: &[u8], bx: u32, by: u32) -> Shown {
     let mut words = [UNWRITTEN; 9];
     let refusal = unsafe {
         c::panel_show(&header, output.as_ptr(), output.len(), marks.as_ptr(), marks.len(), bx, by, &mut words)
     };
     Shown { refusal, words }
+}
+
+#[derive(Debug, PartialEq, Eq)]
+pub struct Locked {
+    pub refusal: u32,
+    pub header: Header,
+}
+
+pub fn lock(header: Header, [left, top, width, height]: [u32; 4]) -> Locked {
+    let mut locked = [UNWRITTEN; 6];
+    let refusal = unsafe { c::panel_lock(&header, left, top, width, height, &mut locked) };
+    Locked { refusal, header: locked }
 }
 
 #[derive(Debug, PartialEq, Eq)]

@@ -1,9 +1,9 @@
 //! One session call alone: what it answers and leaves by the rules, whatever header, marks and lengths it is lent.
 
 use super::lent::{Bits, Lent};
-use super::machine::{names, Answer, Call};
+use super::machine::{header, lock_of, names, past, Answer, Call, Rectangle, NONE};
 use super::original;
-use crate::panel;
+use crate::panel::{self, Header};
 
 /// The buffers of a session, as they are lent or as they are left.
 #[derive(Clone)]
@@ -22,7 +22,7 @@ impl Buffers {
     }
 
     /// What the library answers, as the machine would say it; numbers beside a refusal must be 0.
-    pub fn call(&mut self, header: [u32; 2], call: Call) -> Result<Answer, String> {
+    pub fn call(&mut self, header: Header, call: Call) -> Result<Answer, String> {
         let (refusal, beside, answer) = match call {
             Call::Paint { column, row, word } => {
                 let a = panel::paint(header, self.picture.part_mut(), self.marks.part_mut(), column, row, word);
@@ -39,7 +39,11 @@ impl Buffers {
             }
             Call::Show { bx, by } => {
                 let a = panel::show(header, self.output.part(), self.marks.part(), bx, by);
-                (a.refusal, a.words.iter().fold(0, |sum, word| sum | word), Answer::Shown(a.words))
+                (a.refusal, any_bit(&a.words), Answer::Shown(a.words))
+            }
+            Call::Lock { lock } => {
+                let a = panel::lock(header, lock);
+                (a.refusal, any_bit(&a.header), Answer::Locked(a.header))
             }
         };
         match (refusal, beside) {
@@ -54,22 +58,30 @@ impl Buffers {
     }
 }
 
+/// 0 where every number is.
+fn any_bit(numbers: &[u32]) -> u32 {
+    numbers.iter().fold(0, |sum, number| sum | number)
+}
+
 fn place<T: Bits>(name: &str, got: &Lent<T>, expected: &Lent<T>) -> Option<String> {
     let (at, a, b) = got.difference(expected)?;
     Some(format!("{name} element {at}: {a:08x}, expected {b:08x}"))
 }
 
-/// The refusal of sizes: sides, then the buffers that the call is lent.
-fn sizes([w, h]: [u32; 2], picture: Option<usize>, output: Option<usize>, marks: usize) -> u32 {
+/// The refusal of a header and of sizes: sides, the header's lock, then the buffers that the call is lent.
+fn sizes(header: Header, picture: Option<usize>, output: Option<usize>, marks: Option<usize>) -> u32 {
+    let [w, h, ..] = header;
     let wh = u64::from(w) * u64::from(h);
     let short = |len: Option<usize>, each: u64| len.is_some_and(|len| (len as u64) < each * wh);
     if w > 2048 || h > 2048 {
         1
+    } else if past(lock_of(header), w, h) {
+        10
     } else if short(picture, 1) {
         2
     } else if short(output, 9) {
         3
-    } else if short(Some(marks), 1) {
+    } else if short(marks, 1) {
         4
     } else {
         0
@@ -77,12 +89,14 @@ fn sizes([w, h]: [u32; 2], picture: Option<usize>, output: Option<usize>, marks:
 }
 
 /// What one call answers, and what it leaves in the buffers.
-fn alone(header: [u32; 2], buffers: &mut Buffers, call: Call) -> Answer {
+fn alone(header: Header, buffers: &mut Buffers, call: Call) -> Answer {
     let (picture, output, marks) = buffers.lengths();
+    let (picture, output, marks) = (Some(picture), Some(output), Some(marks));
     let (refusal, at) = match call {
-        Call::Paint { column, row, .. } => (sizes(header, Some(picture), None, marks), Some((column, row))),
-        Call::Refresh { .. } => (sizes(header, Some(picture), Some(output), marks), None),
-        Call::Show { bx, by } => (sizes(header, None, Some(output), marks), Some((bx, by))),
+        Call::Paint { column, row, .. } => (sizes(header, picture, None, marks), Some((column, row))),
+        Call::Refresh { .. } => (sizes(header, picture, output, marks), None),
+        Call::Show { bx, by } => (sizes(header, None, output, marks), Some((bx, by))),
+        Call::Lock { .. } => (sizes(header, None, None, None), None),
     };
     if refusal != 0 {
         return Answer::Refused(refusal);
@@ -92,9 +106,10 @@ fn alone(header: [u32; 2], buffers: &mut Buffers, call: Call) -> Answer {
     }
     let (w, h) = (header[0] as usize, header[1] as usize);
     match call {
-        Call::Paint { column, row, word } => paint(w, h, buffers, (column as usize, row as usize), word),
+        Call::Paint { column, row, word } => paint(header, buffers, (column, row), word),
         Call::Refresh { n } => refresh(w, h, buffers, n),
         Call::Show { bx, by } => show(w, buffers, bx as usize, by as usize),
+        Call::Lock { lock } => locked(header, lock),
     }
 }
 
@@ -103,17 +118,31 @@ fn count(marks: &[u8]) -> u32 {
     marks.iter().filter(|&&mark| mark != 0).count() as u32
 }
 
-fn paint(w: usize, h: usize, buffers: &mut Buffers, position: (usize, usize), word: u32) -> Answer {
-    let marks = &mut buffers.marks.part_mut()[..w * h];
-    if std::mem::replace(&mut buffers.picture.part_mut()[position.1 * w + position.0], word) == word {
+fn paint([w, h, left, top, width, height]: Header, buffers: &mut Buffers, (x, y): (u32, u32), word: u32) -> Answer {
+    let (columns, position) = (w as usize, (x as usize, y as usize));
+    let marks = &mut buffers.marks.part_mut()[..columns * h as usize];
+    let here = &mut buffers.picture.part_mut()[position.1 * columns + position.0];
+    if *here == word {
         return Answer::Unchanged { stale: count(marks) };
     }
+    let beyond = |start: u32, length: u32| u64::from(start) + u64::from(length);
+    if x >= left && y >= top && u64::from(x) < beyond(left, width) && u64::from(y) < beyond(top, height) {
+        return Answer::Refused(11);
+    }
+    *here = word;
     for (at, mark) in marks.iter_mut().enumerate() {
-        if names(position, (at % w, at / w)) {
+        if names(position, (at % columns, at / columns)) {
             *mark = 1;
         }
     }
     Answer::Painted { stale: count(marks) }
+}
+
+fn locked([w, h, ..]: Header, lock: Rectangle) -> Answer {
+    if past(lock, w, h) {
+        return Answer::Refused(10);
+    }
+    Answer::Locked(header(w, h, lock))
 }
 
 fn refresh(w: usize, h: usize, buffers: &mut Buffers, n: u32) -> Answer {
@@ -140,7 +169,7 @@ fn show(w: usize, buffers: &Buffers, bx: usize, by: usize) -> Answer {
 }
 
 /// One call of the library on these buffers, beside the rules.
-pub fn call_alone(header: [u32; 2], mut got: Buffers, call: Call) -> Result<(), String> {
+pub fn call_alone(header: Header, mut got: Buffers, call: Call) -> Result<(), String> {
     let mut expected = got.clone();
     let said = got.call(header, call);
     let should = Ok(alone(header, &mut expected, call));
@@ -153,19 +182,20 @@ pub fn call_alone(header: [u32; 2], mut got: Buffers, call: Call) -> Result<(), 
 }
 
 /// One opening by the library on these buffers, beside the rules.
-pub fn opening(header: [u32; 2], mut got: Buffers) -> Result<(), String> {
+pub fn opening([w, h]: [u32; 2], mut got: Buffers) -> Result<(), String> {
     let mut expected = got.clone();
-    let opened = panel::open(header[0], header[1], got.picture.part(), got.output.part_mut(), got.marks.part_mut());
+    let opened = panel::open(w, h, got.picture.part(), got.output.part_mut(), got.marks.part_mut());
     let lengths = got.lengths();
-    let refusal = sizes(header, Some(lengths.0), Some(lengths.1), lengths.2);
-    let mut should = panel::Opened { refusal, header: [0; 2], stale: 0 };
+    let fresh = header(w, h, NONE);
+    let refusal = sizes(fresh, Some(lengths.0), Some(lengths.1), Some(lengths.2));
+    let mut should = panel::Opened { refusal, header: [0; 6], stale: 0 };
     if refusal == 0 {
-        let wh = header[0] as usize * header[1] as usize;
-        should = panel::Opened { refusal, header, stale: wh as u32 };
+        let wh = w as usize * h as usize;
+        should = panel::Opened { refusal, header: fresh, stale: wh as u32 };
         expected.output.put(&vec![0; 9 * wh]);
         expected.marks.put(&vec![1; wh]);
     }
     let text =
         if opened == should { got.difference(&expected) } else { Some(format!("{opened:?}, expected {should:?}")) };
-    text.map_or(Ok(()), |text| Err(format!("opening {header:?} with lengths {lengths:?}: {text}")))
+    text.map_or(Ok(()), |text| Err(format!("opening {w} by {h} with lengths {lengths:?}: {text}")))
 }

@@ -29,7 +29,7 @@ const FIRST_SLICES: usize = 64;
 const SESSIONS: usize = 8;
 
 struct Session {
-    header: [u32; 2],
+    header: panel::Header,
     picture: Vec<u32>,
     output: Vec<u32>,
     marks: Vec<u8>,

@@ -8,7 +8,7 @@
 use super::alone::{call_alone, opening, Buffers};
 use super::font;
 use super::lent::Lent;
-use super::machine::Call;
+use super::machine::{header, Call, NONE};
 use super::pair::Pair;
 use super::pictures::KINDS;
 use super::random::Random;
@@ -65,6 +65,19 @@ impl List {
         self.pair.same()
     }
 
+    /// The last pixel locked, a rectangle one past each border refused, and nothing locked again.
+    fn locks(&mut self) -> Result<(), String> {
+        let (w, h) = (self.w as u32, self.h as u32);
+        let word = self.pair.machine.picture[self.w * self.h - 1];
+        self.call(Call::Lock { lock: [w - 1, h - 1, 1, 1] })?;
+        self.call(Call::Lock { lock: [w - 1, h - 1, 2, 1] })?;
+        self.call(Call::Lock { lock: [w - 1, h - 1, 1, 2] })?;
+        self.call(Call::Paint { column: w - 1, row: h - 1, word: !word })?;
+        self.call(Call::Paint { column: w - 1, row: h - 1, word })?;
+        self.call(Call::Lock { lock: NONE })?;
+        self.pair.same()
+    }
+
     /// The block of each place, the one beside the last place's marked blocks, and two outside.
     fn shows(&mut self) -> Result<(), String> {
         let beside = (self.w.saturating_sub(8) as u32, self.h.saturating_sub(7) as u32);
@@ -81,6 +94,7 @@ impl List {
         self.shows()?;
         self.refreshes(&[u32::MAX, u32::MAX])?;
         self.shows()?;
+        self.locks()?;
         self.paints(0x0100_0000)?;
         self.paints(0x0012_3456)?;
         self.shows()?;
@@ -120,16 +134,18 @@ fn buffers(random: &mut Random, blocks: usize, [picture, output, marks]: [usize;
 /// Sides of 2,049, on buffers that are long enough for 2,049 blocks; sides of 2,048 on buffers one short.
 fn refused(random: &mut Random) -> Result<(), String> {
     let (n, past) = (LIMIT as u32, LIMIT as u32 + 1);
-    for header in [[past, 1], [1, past], [past, 0], [0, past], [past, n], [n, past], [past, past]] {
-        opening(header, buffers(random, LIMIT + 1, [0; 3]))?;
+    for [w, h] in [[past, 1], [1, past], [past, 0], [0, past], [past, n], [n, past], [past, past]] {
+        opening([w, h], buffers(random, LIMIT + 1, [0; 3]))?;
         let paint = Call::Paint { column: 0, row: 0, word: 1 };
-        for call in [paint, Call::Refresh { n: u32::MAX }, Call::Show { bx: 0, by: 0 }] {
-            call_alone(header, buffers(random, LIMIT + 1, [0; 3]), call)?;
+        let lock = Call::Lock { lock: [0, 0, w, h] };
+        for call in [paint, Call::Refresh { n: u32::MAX }, Call::Show { bx: 0, by: 0 }, lock] {
+            call_alone(header(w, h, NONE), buffers(random, LIMIT + 1, [0; 3]), call)?;
+            call_alone(header(w, h, [0, 0, w, h]), buffers(random, LIMIT + 1, [0; 3]), call)?;
         }
     }
-    for header in [[n, 1], [1, n]] {
+    for sides in [[n, 1], [1, n]] {
         for short in [[1, 0, 0], [0, 1, 0], [0, 0, 1], [1, 1, 1]] {
-            opening(header, buffers(random, LIMIT, short))?;
+            opening(sides, buffers(random, LIMIT, short))?;
         }
     }
     Ok(())

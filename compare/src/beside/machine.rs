@@ -1,10 +1,39 @@
 //! The plain machine of a session. It redraws the picture whole by the original, and takes nothing from the library.
 
 use super::original;
+use crate::panel::Header;
+
+/// A rectangle of the picture: left, top, width, height.
+pub type Rectangle = [u32; 4];
+
+pub const NONE: Rectangle = [0; 4];
+
+/// Whether the position lies in the rectangle; one of width or height 0 has none.
+fn holds([left, top, width, height]: Rectangle, x: u32, y: u32) -> bool {
+    let along = |start: u32, length: u32, at: u32| at.checked_sub(start).is_some_and(|distance| distance < length);
+    along(left, width, x) && along(top, height, y)
+}
+
+/// Whether the rectangle has an area and reaches past a picture of w by h.
+pub fn past([left, top, width, height]: Rectangle, w: u32, h: u32) -> bool {
+    let fits = |start: u32, length: u32, side: u32| side.checked_sub(start).is_some_and(|room| length <= room);
+    width > 0 && height > 0 && !(fits(left, width, w) && fits(top, height, h))
+}
+
+/// The header of a picture of w by h with a lock.
+pub fn header(w: u32, h: u32, [left, top, width, height]: Rectangle) -> Header {
+    [w, h, left, top, width, height]
+}
+
+/// The lock in a header.
+pub fn lock_of([_, _, left, top, width, height]: Header) -> Rectangle {
+    [left, top, width, height]
+}
 
 pub struct Machine {
     w: usize,
     h: usize,
+    lock: Rectangle,
     pub picture: Vec<u32>,
     pub stale: Vec<bool>,
     pub output: Vec<u32>,
@@ -17,6 +46,7 @@ pub enum Call {
     Paint { column: u32, row: u32, word: u32 },
     Refresh { n: u32 },
     Show { bx: u32, by: u32 },
+    Lock { lock: Rectangle },
 }
 
 #[derive(Clone, Copy, Debug, PartialEq, Eq)]
@@ -26,6 +56,7 @@ pub enum Answer {
     Painted { stale: u32 },
     Refreshed { drawn: u32, left: u32 },
     Shown([u32; 9]),
+    Locked(Header),
 }
 
 /// Whether a changing paint at (column, row) makes block (bx, by) stale.
@@ -35,10 +66,10 @@ pub fn names((column, row): (usize, usize), (bx, by): (usize, usize)) -> bool {
 }
 
 impl Machine {
-    /// Every block is stale, every output word 0.
+    /// Every block is stale, every output word 0, nothing locked.
     pub fn open(w: usize, h: usize, picture: &[u32]) -> Machine {
         let picture = picture[..w * h].to_vec();
-        Machine { w, h, picture, stale: vec![true; w * h], output: vec![0; 9 * w * h], whole: None }
+        Machine { w, h, lock: NONE, picture, stale: vec![true; w * h], output: vec![0; 9 * w * h], whole: None }
     }
 
     pub fn stale_count(&self) -> u32 {
@@ -48,6 +79,8 @@ impl Machine {
     pub fn call(&mut self, call: Call) -> Answer {
         match call {
             Call::Paint { column, row, word } => match self.place(column, row) {
+                Some(at) if self.picture[at] == word => Answer::Unchanged { stale: self.stale_count() },
+                Some(_) if holds(self.lock, column, row) => Answer::Refused(11),
                 Some(at) => self.paint(at, word),
                 None => Answer::Refused(5),
             },
@@ -57,7 +90,20 @@ impl Machine {
                 Some(at) => Answer::Shown(self.places(at).map(|i| self.output[i])),
                 None => Answer::Refused(5),
             },
+            Call::Lock { lock } => self.relock(lock),
         }
+    }
+
+    pub fn header(&self) -> Header {
+        header(self.w as u32, self.h as u32, self.lock)
+    }
+
+    fn relock(&mut self, lock: Rectangle) -> Answer {
+        if past(lock, self.w as u32, self.h as u32) {
+            return Answer::Refused(10);
+        }
+        self.lock = lock;
+        Answer::Locked(self.header())
     }
 
     /// A position's number in row order, if it is inside the picture.
@@ -72,10 +118,8 @@ impl Machine {
         std::array::from_fn(|k| (3 * by + k / 3) * (3 * self.w) + 3 * bx + k % 3)
     }
 
+    /// A paint of another word.
     fn paint(&mut self, at: usize, word: u32) -> Answer {
-        if self.picture[at] == word {
-            return Answer::Unchanged { stale: self.stale_count() };
-        }
         self.picture[at] = word;
         self.whole = None;
         for (i, stale) in self.stale.iter_mut().enumerate() {

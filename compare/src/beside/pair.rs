@@ -4,10 +4,11 @@ use super::alone::Buffers;
 use super::lent::Lent;
 use super::machine::{Answer, Call, Machine};
 use super::random::Random;
-use crate::panel;
+use crate::panel::{self, Header};
 
 pub struct Pair {
-    pub header: [u32; 2],
+    /// The header last answered without a refusal.
+    pub header: Header,
     /// The library's buffers.
     pub got: Buffers,
     /// The machine's state at the front, the rest as it was lent.
@@ -35,7 +36,7 @@ impl Pair {
         let expected = got.clone();
         let opened = panel::open(w as u32, h as u32, got.picture.part(), got.output.part_mut(), got.marks.part_mut());
         let machine = Machine::open(w, h, first);
-        let should = panel::Opened { refusal: 0, header: [w as u32, h as u32], stale: machine.stale_count() };
+        let should = panel::Opened { refusal: 0, header: machine.header(), stale: machine.stale_count() };
         if opened != should {
             return Err(format!("{title}: opening answered {opened:?}, expected {should:?}"));
         }
@@ -50,6 +51,9 @@ impl Pair {
         let (said, should) = (self.got.call(self.header, call), self.machine.call(call));
         if said != Ok(should) {
             return Err(format!("{}: answered {said:?}, expected {should:?}", self.list));
+        }
+        if let Answer::Locked(header) = should {
+            self.header = header;
         }
         Ok(should)
     }

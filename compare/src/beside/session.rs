@@ -5,10 +5,11 @@
 use super::alone::{call_alone, opening, Buffers};
 use super::largest;
 use super::lent::Lent;
-use super::machine::{Answer, Call};
+use super::machine::{header, lock_of, Answer, Call, Rectangle, NONE};
 use super::pair::Pair;
 use super::pictures::KINDS;
 use super::random::Random;
+use crate::panel::Header;
 
 // ---- random lists
 
@@ -32,11 +33,59 @@ fn any_place(random: &mut Random, side: usize) -> u32 {
     }
 }
 
-fn any_call(random: &mut Random, w: usize, h: usize, picture: &[u32]) -> Call {
-    let (x, y) = (any_place(random, w), any_place(random, h));
+/// A start and a length on a side: inside, from or to a border, one past it, of length 0, or near 2 to the 32nd.
+fn any_stretch(random: &mut Random, side: usize) -> (u32, u32) {
+    let start = random.below(side + 1) as u32;
+    let room = side as u32 - start;
+    match random.below(12) {
+        0 => (start, 0),
+        1 => (0, side as u32),
+        2 => (0, random.between(0, side) as u32),
+        3 | 4 => (start, room),
+        5 => (start, room + 1),
+        6 => (u32::MAX - random.below(3) as u32, random.between(0, 4) as u32),
+        7 => (start, u32::MAX - random.below(2 * side + 2) as u32),
+        8 => (random.word(), random.word()),
+        _ => (start, random.between(0, room as usize) as u32),
+    }
+}
+
+/// A stretch of one or more inside a side.
+fn inner_stretch(random: &mut Random, side: usize) -> (u32, u32) {
+    let start = random.below(side);
+    (start as u32, random.between(1, side - start) as u32)
+}
+
+/// Nothing, a rectangle inside the picture, or any stretch of each side.
+fn any_rectangle(random: &mut Random, w: usize, h: usize) -> Rectangle {
+    let stretch = match random.below(10) {
+        0 => return NONE,
+        1..=5 if w > 0 && h > 0 => inner_stretch,
+        _ => any_stretch,
+    };
+    let ((left, width), (top, height)) = (stretch(random, w), stretch(random, h));
+    [left, top, width, height]
+}
+
+/// A position on a side: mostly any, sometimes of the lock's stretch there: its first or its last, inside it, or just
+/// outside.
+fn any_position(random: &mut Random, side: usize, start: u32, length: u32) -> u32 {
+    if length == 0 || random.one_in(2) {
+        return any_place(random, side);
+    }
+    let inside = start.wrapping_add(random.below(length as usize) as u32);
+    let beyond = start.wrapping_add(length);
+    random.pick(&[start.wrapping_sub(1), start, inside, inside, beyond.wrapping_sub(1), beyond])
+}
+
+fn any_call(random: &mut Random, header: Header, picture: &[u32]) -> Call {
+    let (w, h) = (header[0].min(60) as usize, header[1].min(60) as usize);
+    let [left, top, width, height] = lock_of(header);
+    let (x, y) = (any_position(random, w, left, width), any_position(random, h, top, height));
     match random.below(10) {
         0..=3 => Call::Paint { column: x, row: y, word: any_word(random, picture, w, x, y) },
         4 | 5 => Call::Refresh { n: any_number(random, w * h) },
+        6 => Call::Lock { lock: any_rectangle(random, w, h) },
         _ => Call::Show { bx: x, by: y },
     }
 }
@@ -71,17 +120,25 @@ fn any_length(random: &mut Random, exact: usize) -> usize {
     }
 }
 
-/// A header, lengths and marks that no opening left.
-fn wild(random: &mut Random, header: [u32; 2], buffers: &Buffers) -> ([u32; 2], Buffers) {
-    let mut header = header;
+/// A header that no opening and no lock answered.
+fn wild_header(random: &mut Random, [w, h, ..]: Header, lock: Rectangle) -> Header {
+    let far = random.pick(&[2048, 2049, u32::MAX, 1 << 16, 1 << 31]);
+    let [w, h] = match random.below(7) {
+        0 => [far, h],
+        1 => [w, far],
+        2 => random.pick(&[[65536, 65536], [u32::MAX, u32::MAX], [0, 2049], [2049, 0], [0, 0], [2048, 2048]]),
+        3 => [h, w],
+        4 => [random.below(24) as u32, random.below(24) as u32],
+        _ => [w, h],
+    };
+    let lock = if random.one_in(2) { any_rectangle(random, w.min(60) as usize, h.min(60) as usize) } else { lock };
+    header(w, h, lock)
+}
+
+/// A header, lengths and marks that no call left.
+fn wild(random: &mut Random, header: Header, buffers: &Buffers) -> (Header, Buffers) {
+    let header = wild_header(random, header, lock_of(header));
     let mut copy = buffers.clone();
-    match random.below(6) {
-        0 => header[random.below(2)] = random.pick(&[2048, 2049, u32::MAX, 1 << 16, 1 << 31]),
-        1 => header = random.pick(&[[65536, 65536], [u32::MAX, u32::MAX], [0, 2049], [2049, 0], [0, 0], [2048, 2048]]),
-        2 => header.swap(0, 1),
-        3 => header = [random.below(24) as u32, random.below(24) as u32],
-        _ => {}
-    }
     if random.one_in(2) {
         for mark in copy.marks.part_mut() {
             *mark = random.pick(&[0, 0, 1, 2, 128, 255]);
@@ -96,9 +153,9 @@ fn wild(random: &mut Random, header: [u32; 2], buffers: &Buffers) -> ([u32; 2], 
     (header, Buffers { picture, output, marks })
 }
 
-fn any_alone(random: &mut Random, header: [u32; 2], buffers: &Buffers) -> Result<(), String> {
+fn any_alone(random: &mut Random, header: Header, buffers: &Buffers) -> Result<(), String> {
     let (header, got) = wild(random, header, buffers);
-    let call = any_call(random, header[0].min(60) as usize, header[1].min(60) as usize, got.picture.part());
+    let call = any_call(random, header, got.picture.part());
     call_alone(header, got, call)
 }
 
@@ -107,15 +164,15 @@ fn any_alone(random: &mut Random, header: [u32; 2], buffers: &Buffers) -> Result
 /// An opening of any sizes on any lengths that is refused, or on sides of 0.
 fn any_opening(random: &mut Random) -> Result<(), String> {
     let side = |random: &mut Random| random.pick(&[0, 1, 2, 3, 5, 2048, 2049, 65536, u32::MAX]);
-    let header = [side(random), side(random)];
-    let wh = (u64::from(header[0]) * u64::from(header[1])).min(40) as usize;
+    let [w, h] = [side(random), side(random)];
+    let wh = (u64::from(w) * u64::from(h)).min(40) as usize;
     let cut = |random: &mut Random, len: usize| if random.one_in(3) { len.saturating_sub(1) } else { len };
     let got = Buffers {
         picture: Lent::new(cut(random, wh), random),
         output: Lent::new(cut(random, 9 * wh), random),
         marks: Lent::new(cut(random, wh), random),
     };
-    opening(header, got)
+    opening([w, h], got)
 }
 
 // ---- the run
@@ -125,7 +182,30 @@ struct Tally {
     lists: usize,
     calls: usize,
     refused: usize,
+    locks: usize,
+    past: usize,
+    locked: usize,
     alone: usize,
+}
+
+impl Tally {
+    fn add(&mut self, call: Call, answer: Answer) {
+        self.calls += 1;
+        self.refused += usize::from(matches!(answer, Answer::Refused(_)));
+        self.locks += usize::from(matches!(call, Call::Lock { .. }));
+        self.past += usize::from(answer == Answer::Refused(10));
+        self.locked += usize::from(answer == Answer::Refused(11));
+    }
+}
+
+/// The call of a turn: one turn of every list is a lock, and the first of some draws everything.
+fn turn(random: &mut Random, turn: usize, lock_at: usize, drawn_first: bool, pair: &Pair) -> Call {
+    let [w, h, ..] = pair.header;
+    match turn {
+        0 if drawn_first => Call::Refresh { n: u32::MAX },
+        _ if turn == lock_at => Call::Lock { lock: any_rectangle(random, w as usize, h as usize) },
+        _ => any_call(random, pair.header, &pair.machine.picture),
+    }
 }
 
 fn any_list(random: &mut Random, kind: usize, tally: &mut Tally) -> Result<(), String> {
@@ -135,17 +215,13 @@ fn any_list(random: &mut Random, kind: usize, tally: &mut Tally) -> Result<(), S
     let title = format!("{w} by {h}, lengths {lengths:?}, picture {first:08x?}");
     let mut pair = Pair::open(title, (w, h), &first, lengths, random)?;
     tally.lists += 1;
-    let drawn_first = random.one_in(2);
-    for turn in 0..random.between(1, 24) {
-        let call = if drawn_first && turn == 0 {
-            Call::Refresh { n: u32::MAX }
-        } else {
-            any_call(random, w, h, &pair.machine.picture)
-        };
+    let turns = random.between(2, 24);
+    let (lock_at, drawn_first) = (random.between(1, turns - 1), random.one_in(2));
+    for i in 0..turns {
+        let call = turn(random, i, lock_at, drawn_first, &pair);
         let answer = pair.call(call)?;
         pair.same()?;
-        tally.calls += 1;
-        tally.refused += usize::from(matches!(answer, Answer::Refused(_)));
+        tally.add(call, answer);
         if random.one_in(4) {
             tally.alone += 1;
             any_alone(random, pair.header, &pair.got)?;
@@ -184,10 +260,14 @@ pub fn run(count: usize, seed: u64) -> bool {
         println!("{text}");
     }
     println!(
-        "session: {} lists of {} calls ({} of them refused), and {} calls alone with any header and marks: {} differences",
+        "session: {} lists of {} calls ({} of them refused), a lock in every list ({} locks, {} refused; {} paints refused in \
+         a lock), and {} calls alone with any header and marks: {} differences",
         tally.lists,
         tally.calls,
         tally.refused,
+        tally.locks,
+        tally.past,
+        tally.locked,
         tally.alone,
         found.len()
     );
