@@ -1,6 +1,7 @@
 /*
- * A small session, a whole picture three and nine times, and a page file, through the C face. Every answer is held to
- * what it must be; the first that is not ends the program with status 1 and a line that says where.
+ * A small session, a legend that is locked, a whole picture three and nine times, and a page file, through the C face.
+ * Every answer is held to what it must be; the first that is not ends the program with status 1 and a line that says
+ * where.
  * Build in the repository: gcc -std=c99 -Iinclude examples/panel.c target/staticlib/libpanel.a -lm -o panel
  * Build in the archive:    gcc -std=c99 -Iinclude examples/panel.c lib/libpanel.a -lm -o panel
  * -lm is for fegetround, which this program calls; the library does not need it.
@@ -114,6 +115,8 @@ static void first_drawing(void)
     refusal = open_session(&stale);
     EXPECT(refusal == PANEL_NONE);
     EXPECT(header[PANEL_HEADER_W] == W && header[PANEL_HEADER_H] == H && stale == PIXELS);
+    for (size_t i = PANEL_HEADER_LEFT; i <= PANEL_HEADER_HEIGHT; i++)
+        EXPECT(header[i] == 0);
     printf("open: refusal %" PRIu32 ", header %" PRIu32 " by %" PRIu32 ", %" PRIu32 " stale\n", refusal,
            header[PANEL_HEADER_W], header[PANEL_HEADER_H], stale);
     refusal = show(2, 2, words);
@@ -183,6 +186,88 @@ static void cursor(void)
         EXPECT(changed == 1 && stale == expected[i]);
         printf("cursor at (%" PRIu32 ", %" PRIu32 ") of 32 by 32: %" PRIu32 " stale\n", at[i], at[i], stale);
     }
+}
+
+/* A page with a legend of 6 by 3 pixels on it. */
+enum { COLUMNS = 12, ROWS = 8, LEFT = 3, TOP = 2, WIDTH = 6, HEIGHT = 3 };
+
+static const uint32_t RED = 0x00c00000u, WHITE = 0x00ffffffu;
+
+static uint32_t page_picture[PANEL_PICTURE_LEN(COLUMNS, ROWS)], page_output[PANEL_OUTPUT_LEN(COLUMNS, ROWS)];
+static uint8_t page_marks[PANEL_MARKS_LEN(COLUMNS, ROWS)];
+static uint32_t page_header[PANEL_HEADER_LEN];
+
+static uint32_t paint_page(uint32_t column, uint32_t row, uint32_t word, uint32_t *changed)
+{
+    uint32_t stale;
+
+    return panel_paint(page_header, page_picture, PANEL_PICTURE_LEN(COLUMNS, ROWS), page_marks,
+                       PANEL_MARKS_LEN(COLUMNS, ROWS), column, row, word, changed, &stale);
+}
+
+/* The header with the lock stands in force only where the lock was not refused. */
+static uint32_t lock_page(uint32_t left, uint32_t top, uint32_t width, uint32_t height)
+{
+    uint32_t locked[PANEL_HEADER_LEN], refusal;
+
+    refusal = panel_lock(page_header, left, top, width, height, locked);
+    if (refusal == PANEL_NONE)
+        memcpy(page_header, locked, sizeof page_header);
+    for (size_t i = 0; refusal != PANEL_NONE && i < PANEL_HEADER_LEN; i++)
+        EXPECT(locked[i] == 0);
+    return refusal;
+}
+
+/* The builder paints the emergency legend and locks it. */
+static void paint_legend(void)
+{
+    uint32_t stale, changed;
+
+    EXPECT(panel_open(COLUMNS, ROWS, page_picture, PANEL_PICTURE_LEN(COLUMNS, ROWS), page_output,
+                      PANEL_OUTPUT_LEN(COLUMNS, ROWS), page_marks, PANEL_MARKS_LEN(COLUMNS, ROWS), page_header,
+                      &stale) == PANEL_NONE);
+    for (uint32_t i = 0; i < WIDTH * HEIGHT; i++)
+        EXPECT(paint_page(LEFT + i % WIDTH, TOP + i / WIDTH, RED, &changed) == PANEL_NONE && changed == 1);
+    EXPECT(lock_page(LEFT, TOP, WIDTH, HEIGHT) == PANEL_NONE);
+    EXPECT(page_header[PANEL_HEADER_W] == COLUMNS && page_header[PANEL_HEADER_H] == ROWS);
+    EXPECT(page_header[PANEL_HEADER_LEFT] == LEFT && page_header[PANEL_HEADER_TOP] == TOP);
+    EXPECT(page_header[PANEL_HEADER_WIDTH] == WIDTH && page_header[PANEL_HEADER_HEIGHT] == HEIGHT);
+    printf("legend: %d by %d at (%d, %d) locked\n", WIDTH, HEIGHT, LEFT, TOP);
+}
+
+/* A plug-in then paints every pixel of the page white: what it is refused is the legend, which keeps its red. */
+static void plug_in(void)
+{
+    uint32_t refusal, changed, refused = 0;
+
+    for (uint32_t i = 0; i < COLUMNS * ROWS; i++) {
+        uint32_t x = i % COLUMNS, y = i / COLUMNS;
+        int inside = LEFT <= x && x < LEFT + WIDTH && TOP <= y && y < TOP + HEIGHT;
+
+        refusal = paint_page(x, y, WHITE, &changed);
+        EXPECT(refusal == (inside ? PANEL_LOCKED : PANEL_NONE) && changed == !inside);
+        EXPECT(page_picture[i] == (inside ? RED : WHITE));
+        refused += refusal == PANEL_LOCKED;
+    }
+    printf("plug-in: %" PRIu32 " of %d paints refused\n", refused, COLUMNS * ROWS);
+    EXPECT(paint_page(LEFT, TOP, RED, &changed) == PANEL_NONE && changed == 0);
+    printf("the legend's own word: changed %" PRIu32 "\n", changed);
+}
+
+/* A lock past the picture is refused, and the one before stays; one of width 0 lets everything be painted. */
+static void unlock(void)
+{
+    uint32_t refusal, changed;
+
+    refusal = lock_page(COLUMNS - 1, 0, 2, 1);
+    EXPECT(refusal == PANEL_LOCK && lock_page(UINT32_MAX, 0, 2, 1) == PANEL_LOCK);
+    printf("lock past the picture: refusal %" PRIu32 "\n", refusal);
+    refusal = paint_page(LEFT, TOP, WHITE, &changed);
+    EXPECT(refusal == PANEL_LOCKED && changed == 0);
+    printf("paint in the legend: refusal %" PRIu32 "\n", refusal);
+    EXPECT(lock_page(UINT32_MAX, 7, 0, 1) == PANEL_NONE && page_header[PANEL_HEADER_LEFT] == UINT32_MAX);
+    EXPECT(paint_page(LEFT, TOP, WHITE, &changed) == PANEL_NONE && changed == 1);
+    printf("paint there, nothing locked: changed %" PRIu32 "\n", changed);
 }
 
 static uint32_t scale_with(size_t bytes_len)
@@ -283,6 +368,9 @@ int main(void)
     show_block();
     change();
     cursor();
+    paint_legend();
+    plug_in();
+    unlock();
     whole();
     nine();
     page();

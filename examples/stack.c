@@ -78,6 +78,13 @@ static void call_show(void)
                 == PANEL_NONE, "show was refused");
 }
 
+static void call_lock(void)
+{
+    uint32_t locked[PANEL_HEADER_LEN];
+
+    require(panel_lock(header, 33, 20, W - 33, H - 20, locked) == PANEL_NONE, "lock was refused");
+}
+
 static void call_scale(void)
 {
     require(panel_scale(W, H, picture, PANEL_PICTURE_LEN(W, H), output, PANEL_OUTPUT_LEN(W, H), singles,
@@ -130,6 +137,7 @@ static const struct {
     {"paint", call_paint},
     {"refresh of one change", call_refresh_all},
     {"show", call_show},
+    {"lock", call_lock},
     {"scale", call_scale},
     {"scale9x", call_scale9x},
     {"root", call_root},

@@ -25,8 +25,10 @@
  *   6  the root's operand has its sign bit set, is infinite or is not a number
  *   7  the block is stale
  *   8  the file is under 12 bytes, its last four bytes are wrong, or its back is wrong: not 12 + 4wh, or not its length
+ *  10  a rectangle of width and height above 0 reaches past the picture, given to panel_lock or standing in a header
+ *  11  a paint of another word inside the lock
  *
- * Where several hold, the first in the order 1, 2, 3, 4, 5, 7 is returned (panel_read_page: 8, 1, 2).
+ * Where several hold, the first in the order 1, 10, 2, 3, 4, 5, 7, 11 is returned (panel_read_page: 8, 1, 2).
  *
  * Machine. The library is for x86-64 with SSE2, called by the System V ABI, size_t having 64 bits. Its code is
  * position independent. The only symbol that it needs from outside is memset. The toolchain makes no code for ARM
@@ -59,8 +61,8 @@ extern "C" {
 #endif
 
 /* The version of this header: major * 10000 + minor * 100 + patch, and the three with points between. */
-#define PANEL_VERSION 300u
-#define PANEL_VERSION_STRING "0.3.0"
+#define PANEL_VERSION 400u
+#define PANEL_VERSION_STRING "0.4.0"
 
 /*
  * No call takes more bytes of stack than this. It is measured, not proved: examples/stack.c, with what memset of the C
@@ -77,6 +79,8 @@ extern "C" {
 #define PANEL_OPERAND 6u   /* no root: sign bit set, infinite or not a number */
 #define PANEL_STALE 7u     /* the block is stale */
 #define PANEL_TRAILER 8u   /* the file is no page */
+#define PANEL_LOCK 10u     /* a locked rectangle reaches past the picture */
+#define PANEL_LOCKED 11u   /* the position is locked, and the word is another */
 
 #define PANEL_SIDE_3X 2048u /* the largest side of panel_scale, of a session and of a page */
 #define PANEL_SIDE_9X 682u  /* the largest side of panel_scale9x */
@@ -94,10 +98,14 @@ extern "C" {
 #define PANEL_SINGLES9_LEN(w, h) ((size_t)72 * PANEL_PICTURE_LEN(w, h))
 #define PANEL_BYTES9_LEN(w, h) ((size_t)72 * PANEL_PICTURE_LEN(w, h))
 
-#define PANEL_HEADER_LEN 2u  /* the numbers of a session's header */
-#define PANEL_HEADER_W 0     /* the place of w in it */
-#define PANEL_HEADER_H 1     /* the place of h in it */
-#define PANEL_BLOCK_WORDS 9u /* the words of a block */
+#define PANEL_HEADER_LEN 6u   /* the numbers of a session's header */
+#define PANEL_HEADER_W 0      /* the place of w in it */
+#define PANEL_HEADER_H 1      /* the place of h in it */
+#define PANEL_HEADER_LEFT 2   /* the place of the lock's first column in it */
+#define PANEL_HEADER_TOP 3    /* the place of the lock's first row in it */
+#define PANEL_HEADER_WIDTH 4  /* the place of the lock's columns in it */
+#define PANEL_HEADER_HEIGHT 5 /* the place of the lock's rows in it */
+#define PANEL_BLOCK_WORDS 9u  /* the words of a block */
 
 /*
  * The version of the library, to be held to PANEL_VERSION: a program that was compiled with another header's numbers
@@ -156,13 +164,16 @@ uint32_t panel_scale9x(uint32_t w, uint32_t h,
  * A session keeps an output three times the size of a picture that changes, and draws anew only what a change can
  * have altered. It is a header and three buffers, which the caller keeps from call to call and writes by these
  * calls alone:
- *   header   two numbers, w and h, as panel_open answers them; lent to every later call
+ *   header   six numbers, w, h and the lock's left, top, width and height, as panel_open or panel_lock answered them
+ *            last without a refusal; lent to every later call
  *   picture  wh words
  *   output   9wh words: 3h rows of 3w. The nine words of the pixel (bx, by) are block (bx, by)
  *   marks    wh bytes, one a block in row order: 0 where the block shows the present picture, else it is stale
  * Whatever paints and refreshes were made, a block that is not stale shows what panel_scale draws there for the
  * present picture. A stale block keeps the words of its last drawing.
- * A header is checked like fresh sizes: a call with a header that no opening answered is refused or safe.
+ * The lock is a rectangle of the picture in which no paint changes a word. With a width or a height of 0 it locks
+ * nothing, whatever the other three numbers are. It does not keep the caller from writing the picture himself.
+ * A header is checked like fresh sizes: a call with a header that no call answered is refused or safe.
  */
 
 /*
@@ -171,7 +182,7 @@ uint32_t panel_scale9x(uint32_t w, uint32_t h,
  *   picture  wh words, read
  *   output   9wh words, written: 0
  *   marks    wh bytes, written: 1, every block is stale
- *   header   the session's header; 0 and 0 beside a refusal
+ *   header   the session's header: w, h and four 0s, nothing is locked; six 0s beside a refusal
  *   *stale   the number of stale blocks, wh; 0 beside a refusal
  * Refusals, in this order: 1 w or h past 2048; 2; 3; 4 marks.
  */
@@ -182,6 +193,19 @@ uint32_t panel_open(uint32_t w, uint32_t h,
                     uint32_t header[PANEL_HEADER_LEN], uint32_t *stale);
 
 /*
+ * Locks a rectangle, in place of the one that was locked, or with a width or height of 0 nothing. Only the header is
+ * lent; the session's buffers have no part in it.
+ *   header   the session's header, read
+ *   locked   the header with the lock as given, to be lent to later calls in place of header; six 0s beside a refusal,
+ *            where the header before stays in force. It is another array than header
+ * Refusals, in this order: 1 the header's w or h past 2048; 10 the header's lock, or the rectangle given, reaches past
+ * the picture: left + width above w or top + height above h, the sums taken without wrapping.
+ */
+uint32_t panel_lock(const uint32_t header[PANEL_HEADER_LEN],
+                    uint32_t left, uint32_t top, uint32_t width, uint32_t height,
+                    uint32_t locked[PANEL_HEADER_LEN]);
+
+/*
  * Paints one pixel.
  *   picture   the word at (column, row) is written where it is another, its top byte counted
  *   marks     where the word was another, 1 is written at each block (bx, by) inside the picture that it can alter,
@@ -189,7 +213,8 @@ uint32_t panel_open(uint32_t w, uint32_t h,
  *             else nothing
  *   *changed  1 where the word was another, 0 where it was equal; 0 beside a refusal
  *   *stale    the number of stale blocks after the call; 0 beside a refusal
- * Refusals, in this order: 1 the header's w or h past 2048; 2; 4 marks; 5 (column, row) outside the picture.
+ * Refusals, in this order: 1 the header's w or h past 2048; 10 the header's lock past the picture; 2; 4 marks; 5
+ * (column, row) outside the picture; 11 the position is locked and the word another: an equal one is not refused.
  */
 uint32_t panel_paint(const uint32_t header[PANEL_HEADER_LEN],
                      uint32_t *picture, size_t picture_len,
@@ -204,7 +229,7 @@ uint32_t panel_paint(const uint32_t header[PANEL_HEADER_LEN],
  *   marks    0 is written for each block drawn
  *   *drawn   the number of blocks drawn; 0 beside a refusal
  *   *left    the number of blocks still stale; 0 beside a refusal
- * Refusals, in this order: 1 the header's w or h past 2048; 2; 3; 4 marks.
+ * Refusals, in this order: 1 the header's w or h past 2048; 10 the header's lock past the picture; 2; 3; 4 marks.
  */
 uint32_t panel_refresh(const uint32_t header[PANEL_HEADER_LEN],
                        const uint32_t *picture, size_t picture_len,
@@ -215,8 +240,8 @@ uint32_t panel_refresh(const uint32_t header[PANEL_HEADER_LEN],
 /*
  * The nine words of one block, row by row. Nothing is written but words.
  *   words    the block; nine times 0 beside a refusal
- * Refusals, in this order: 1 the header's w or h past 2048; 3; 4 marks; 5 (bx, by) outside the picture; 7 the block
- * is stale.
+ * Refusals, in this order: 1 the header's w or h past 2048; 10 the header's lock past the picture; 3; 4 marks; 5
+ * (bx, by) outside the picture; 7 the block is stale.
  */
 uint32_t panel_show(const uint32_t header[PANEL_HEADER_LEN],
                     const uint32_t *output, size_t output_len,
