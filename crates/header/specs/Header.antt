@@ -1,4 +1,5 @@
--- Request 3: a session's header with its locked rectangle. Numbers are whole and do not wrap: left + width is a sum of ℕ. Definitions only.
+-- Section 7's header of a session, with the rectangle that is locked. Its numbers are taken as whole numbers: left + width does not wrap.
+-- Definitions only.
 use mathlib.Core.Bool.{Bool, _&&_, _||_}
 use Prim.Native.Nat.{ℕ, _+_}
 use lib.Dec.{ltb, leb}

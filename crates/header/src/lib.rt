@@ -1,6 +1,7 @@
-// A session's header, one thing that every call but the opening is lent: the picture's width and height, and one locked rectangle, the lock.
-// `specs/Header.antt` says what a lock holds and where it reaches past the picture.
+// A session's header, one thing that every call but the opening is lent: the picture's width and height, and one locked
+// rectangle, the lock. `specs/Header.antt` says what a lock holds and when a rectangle reaches past the picture.
 ghost use mathlib.Core.Path.{_≡_};
+ghost use Prim.Native.Nat.{_+_};
 ghost use Rattle.header.specs.Header.{locked, past, fresh, noHeader};
 
 // A rectangle of the picture: its first column and row, its columns and rows. As a lock of width or height 0 it locks nothing, whatever
@@ -41,12 +42,19 @@ pub fn no_header() -> Header
     fresh(0, 0)
 }
 
-// The position lies in the lock. The sums are taken in 64 bits: in 32 a border near 2^32 would wrap.
+// The first column past a rectangle, or the first row: in 64 bits, since in 32 a sum near 2^32 would wrap.
+fn end(start: u32, length: u32) -> u64
+    ensures { λ r. ⌜ r ≡ start + length ⌝ }
+{
+    (start as u64) + (length as u64)
+}
+
+// The position lies in the lock.
 pub fn locked(lock: Rectangle, column: u32, row: u32) -> bool
     ensures { λ r. ⌜ r ≡ locked lock column row ⌝ }
 {
-    let right = (lock.left as u64) + (lock.width as u64);
-    let bottom = (lock.top as u64) + (lock.height as u64);
+    let right = end(lock.left, lock.width);
+    let bottom = end(lock.top, lock.height);
     ((lock.left <= column) & ((column as u64) < right))
         & ((lock.top <= row) & ((row as u64) < bottom))
 }
@@ -55,7 +63,7 @@ pub fn locked(lock: Rectangle, column: u32, row: u32) -> bool
 pub fn past(w: u32, h: u32, r: Rectangle) -> bool
     ensures { λ b. ⌜ b ≡ past w h r ⌝ }
 {
-    let right = (r.left as u64) + (r.width as u64);
-    let bottom = (r.top as u64) + (r.height as u64);
+    let right = end(r.left, r.width);
+    let bottom = end(r.top, r.height);
     ((0 < r.width) & (0 < r.height)) & (((w as u64) < right) | ((h as u64) < bottom))
 }

@@ -28,22 +28,22 @@ use Rattle.machine.proofs.Held.{held, unmet, inside-of, stale-held, blo
 
 module _ (S : Screen) (L : Lawful S) (w h : ℕ) where
   -- what holds of a state, and of it once the word is stored, holds after a paint
-  by-paint : (P : State → Type 0) (column row word : ℕ) (s : State) → P s → (column < w → row < h → P (store S w h column row word s))
-      → P (step S w h (Paint column row word) s .0)
+  pub by-paint : (P : State → Type 0) (column row word : ℕ) (s : State) → P s
+      → (column < w → row < h → locked (s .lock) column row ≡ false → P (store S w h column row word s)) → P (step S w h (Paint column row word) s .0)
   by-paint P column row word s same stored =
-      by-tests (inside w h column row) refl (eqb word (getD (s .picture) (row * w + column) 0)) (locked (s .lock) column row)
+      by-tests (inside w h column row) refl (eqb word (getD (s .picture) (row * w + column) 0)) (locked (s .lock) column row) refl
     where
       t : State
       t = store S w h column row word s
 
-      by-tests : (b : Bool) → inside w h column row ≡ b → (u k : Bool)
+      by-tests : (b : Bool) → inside w h column row ≡ b → (u k : Bool) → locked (s .lock) column row ≡ k
           → P
           (cond {A = State × Answer} b
           (cond u (s, Painted 0 0 (count (s .stale))) (cond k (s, Painted 11 0 0) (t, Painted 0 1 (count (t .stale))))) (s, Painted 5 0 0) .0)
-      by-tests false e u k = same
-      by-tests true e true k = same
-      by-tests true e false true = same
-      by-tests true e false false = let i = inside-of w h column row e in stored (i .0) (i .1)
+      by-tests false e u k f = same
+      by-tests true e true k f = same
+      by-tests true e false true f = same
+      by-tests true e false false f = let i = inside-of w h column row e in stored (i .0) (i .1) f
 
   -- what holds of a state, and of it with the rectangle locked, holds after a lock
   by-lock : (P : State → Type 0) (r : Rectangle) (s : State) → P s → (past w h r ≡ false → P (relock r s)) → P (step S w h (Lock r) s .0)
@@ -53,8 +53,8 @@ module _ (S : Screen) (L : Lawful S) (w h : ℕ) where
       by-past true e = same
       by-past false e = locked e
 
-  good-step : (c : Call) (s : State) → Good S w h s → Good S w h (step S w h c s .0)
-  good-step (Paint column row word) s g = by-paint (Good S w h) column row word s g (λ c r. good-store S L w h column row word s c r g)
+  pub good-step : (c : Call) (s : State) → Good S w h s → Good S w h (step S w h c s .0)
+  good-step (Paint column row word) s g = by-paint (Good S w h) column row word s g (λ c r f. good-store S L w h column row word s c r g)
   good-step (Refresh n) s g = good-redraw S L w h (min n (count (s .stale))) s g
   good-step (Show bx by) s g = g
   good-step (Lock r) s g = by-lock (Good S w h) r s g (λ e. good-relock S L w h r s e g)
@@ -131,7 +131,7 @@ module _ (S : Screen) (L : Lawful S) (w h : ℕ) (sides : sideLong (S .side) w h
       let t = paint-held S L w h sides tp to tm s g column row word d
       (subst₂ (λ (k : Header) (b : Buffers). Paints S k (b .picture) (b .marks) column row word d) a q p) in
       let i = ran-held r (step S w h (Paint column row word) s .0) (good-step S L w h (Paint column row word) s g)
-      (a ∙ by-paint S L w h (λ t. headerOf w h s ≡ headerOf w h t) column row word s refl (λ c r. refl))
+      (a ∙ by-paint S L w h (λ t. headerOf w h s ≡ headerOf w h t) column row word s refl (λ c r f. refl))
       (ap (λ (b : Buffers). record { picture = d .picture; output = b .output; marks = d .marks }) q ∙ ap (λ (t : Buffers × Answer). t .0) t) in
       (i .0, i .1, ap₂ {C = List Answer} _∷_ (ap (λ (t : Buffers × Answer). t .1) t) (i .2))
   ran-held (refresh {n = n} {d = d} p r) s g a q =
@@ -164,7 +164,7 @@ accepted r d x y n q z = by-test (eqb r 0) refl q
 
 module _ (S : Screen) (L : Lawful S) (w h : ℕ) (b : Buffers) where
   -- the buffers that hold a state, with what b has behind
-  abbrev keep : State → Buffers
+  abbrev pub keep : State → Buffers
   keep s = held (drop (w * h) (b .picture)) (drop (blockWords S * (w * h)) (b .output)) (drop (w * h) (b .marks)) s
 
   module _ {stale : ℕ} {cs : List Call} {rs : List Answer} {last : Header} {e : Buffers} (t : Trace S w h b stale cs rs last e) where
@@ -205,18 +205,18 @@ module _ (S : Screen) (L : Lawful S) (w h : ℕ) (b : Buffers) where
     good-started : Good S w h (started S w h b)
     good-started = good-opened S L w h (take (w * h) (b .picture)) (length-take-le (w * h) (b .picture) (sizes .1))
 
-    abbrev met : State
+    abbrev pub met : State
     met = after S w h cs (started S w h b)
 
-    good-met : Good S w h met
+    pub good-met : Good S w h met
     good-met = good-after S L w h cs (started S w h b) good-started
 
-    more : {cs : List Call} {rs : List Answer} {header last′ : Header} {b′ e′ : Buffers} → Ran S header b′ cs rs last′ e′ → (s : State) → Good S w h s
+    pub more : {cs : List Call} {rs : List Answer} {header last′ : Header} {b′ e′ : Buffers} → Ran S header b′ cs rs last′ e′ → (s : State) → Good S w h s
         → header ≡ headerOf w h s → b′ ≡ keep s
         → (last′ ≡ headerOf w h (after S w h cs s)) × (e′ ≡ keep (after S w h cs s)) × (rs ≡ answers S w h cs s)
     more r s g a q = ran-held S L w h (sizes .0) (drop (w * h) (b .picture)) (drop (blockWords S * (w * h)) (b .output)) (drop (w * h) (b .marks)) r s g a q
 
-    ended : (last ≡ headerOf w h met) × (e ≡ keep met) × (rs ≡ answers S w h cs (started S w h b))
+    pub ended : (last ≡ headerOf w h met) × (e ≡ keep met) × (rs ≡ answers S w h cs (started S w h b))
     unfolding done
     ended = more (t .ran) (started S w h b) good-started (ap (λ (d : OpenEnd). d .header) (opening .1)) start
 

@@ -43,9 +43,11 @@ pub small-words : (side words w h : ℕ) → (side ≤ 2048) × (words ≤ 81) �
 small-words side words w h l e = mul-le-mul (l .1) (small side w h (l .0) e)
 
 -- the header's two checks, where they refuse nothing
-pub header-tests : (side : ℕ) (header : Header) → refusalHeader side header 0 ≡ 0
-    → (sideLong side (header .w) (header .h) ≡ false) × (past (header .w) (header .h) (header .lock) ≡ false)
-header-tests side header e =
+abbrev pub Taken : ℕ → Header → Type 0
+Taken side header = (sideLong side (header .w) (header .h) ≡ false) × (past (header .w) (header .h) (header .lock) ≡ false)
+
+pub header-taken : (side : ℕ) (header : Header) → refusalHeader side header 0 ≡ 0 → Taken side header
+header-taken side header e =
     let q = unmet (sideLong side (header .w) (header .h)) 0 _ e in (q .0, unmet (past (header .w) (header .h) (header .lock)) 9 0 (q .1) .0)
 
 -- and where they do, whatever would come next

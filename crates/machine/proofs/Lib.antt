@@ -5,3 +5,4 @@ pub mod Held
 pub mod Demand3
 pub mod Order
 pub mod Ends
+pub mod Locked

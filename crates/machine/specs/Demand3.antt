@@ -4,8 +4,8 @@ use mathlib.Core.Path.{_≡_}
 use mathlib.Core.Bool.{Bool, true, false, cond}
 use mathlib.Core.List.{List, [], _∷_, map}
 use Prim.Native.Nat.{ℕ, suc, _+_, _-_, _*_, _<_}
-use lib.ListN.{getD, take, drop, replicate}
 use lib.Dec.{eqb}
+use lib.ListN.{getD, take, drop, replicate}
 use Rattle.header.specs.declared.Rectangle.{Rectangle}
 use Rattle.header.specs.declared.Header.{Header}
 use Rattle.machine.specs.Lists.{table, count}
@@ -22,7 +22,7 @@ pub record Buffers : Type 0 where
 
 -- ---- lists of calls
 
--- the header last answered without a refusal, once a lock call was lent a header
+-- the header last answered without a refusal, after a lock call that was lent one and ended as d
 abbrev pub latest : Header → LockEnd → Header
 latest header d = cond (eqb (d .refusal) 0) (d .header) header
 

@@ -1,4 +1,4 @@
--- Section 7's plain machine with the lock of request 3, for a picture of w by h on a screen S. It is given the opening's w, h and picture and each call's own
+-- Section 7's plain machine, for a picture of w by h on a screen S. It is given the opening's w, h and picture and each call's own
 -- arguments; it takes nothing from the program. Definitions only. Blocks are numbered in row order: block b is (b % w, b / w).
 use mathlib.Core.Bool.{Bool, true, false, cond, _&&_}
 use mathlib.Core.List.{List, [], _∷_}

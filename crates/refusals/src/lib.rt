@@ -1,6 +1,7 @@
 // Why a call of a session is refused: the number of the first condition that holds, 0 for none. side is the screen's limit of a side, words
-// how many words a block has; header is what the call is lent, or is to answer; p, o and m are the lengths of the picture, the output and the marks. No screen has a longer side than 2,048,
-// nor a block of more than 81 words, as many as nine-times makes of a pixel: so no product wraps.
+// how many words a block has; header is the one that the call is lent, or is to answer; p, o and m are the lengths of the picture, the
+// output and the marks. No screen has a longer side than 2,048, nor a block of more than 81 words, as many as nine-times makes of a pixel:
+// so no product wraps.
 use header::Header;
 use header::Rectangle;
 use header::locked;

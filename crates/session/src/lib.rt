@@ -1,6 +1,7 @@
 // A session: a picture that is painted word by word, and its enlarged output, in which a refresh redraws the blocks that
-// a paint made stale; one rectangle of it can be locked against paints. `machine/specs/Calls.antt` says what each call leaves and answers, `Machine.antt` beside it is the plain machine,
-// `Demand3.antt` says what holds of every list of calls, and `proofs/Theorem.antt` here proves it of this session.
+// a paint made stale; one rectangle of the picture can be locked against paints. `machine/specs/Calls.antt` says what each call leaves and
+// answers, `Machine.antt` beside it is the plain machine, `Demand3.antt` says what holds of every list of calls, and `proofs/Theorem.antt`
+// here proves it of this session.
 use draw::draw_first;
 use header::Header;
 use header::Rectangle;
@@ -113,7 +114,7 @@ impl Session {
         }
     }
 
-    // The word stored at (column, row), and the blocks that may depend on it made stale.
+    // The word stored at (column, row), unless that is locked, and the blocks that may depend on it made stale.
     pub fn paint(
         self,
         picture: &mut [u32],

@@ -1,33 +1,18 @@
 -- `header::past` meets its contract. Assumes nothing.
-use mathlib.Core.Path.{refl}
 use borrow.Author.Needs.{needs}
 use Rattle.header.specs.Header.{past}
 use Rattle.header.proofs.past.Statement.{statement}
 use Rattle.header.proofs.past.Tie as tie
 
-cast-right : tie.Need-cast-right
-cast-right c = search needs
+end-requires : tie.Need-end-requires
+end-requires c κs = search needs
 
-cast-right-2 : tie.Need-cast-right-2
-cast-right-2 c = search needs
-
-add-right : tie.Need-add-right
-add-right c = search needs
-
-cast-bottom : tie.Need-cast-bottom
-cast-bottom c = search needs
-
-cast-bottom-2 : tie.Need-cast-bottom-2
-cast-bottom-2 c = search needs
-
-add-bottom : tie.Need-add-bottom
-add-bottom c = search needs
+end-requires-2 : tie.Need-end-requires-2
+end-requires-2 c κs = search needs
 
 returns : tie.Need-returns
 unfolding past
-returns c = refl
+returns c = rw (c .before .before .before .end .ensures, c .before .before .end2 .ensures)
 
 pub past-spec : {M : Type 1} → statement M
-past-spec =
-    tie.close
-    (tie.spec cast-right cast-right-2 add-right cast-bottom cast-bottom-2 add-bottom returns)
+past-spec = tie.close (tie.spec end-requires end-requires-2 returns)

@@ -1,9 +1,6 @@
 -- `refusals::refuse_lock` meets its contract. Assumes nothing.
-use mathlib.Core.Path.{_≡_, sym, _∙_}
-use mathlib.Core.Bool.{false}
-use Rattle.header.specs.Header.{past}
-use Rattle.machine.specs.Calls.{sideLong}
-use Rattle.machine.proofs.Ends.{header-tests, header-refused}
+use mathlib.Core.Path.{sym, _∙_}
+use Rattle.machine.proofs.Ends.{Taken, header-taken, header-refused}
 use borrow.Author.Needs.{needs}
 use Rattle.refusals.proofs.refuse_lock.Statement.{statement}
 use Rattle.refusals.proofs.refuse_lock.Tie as tie
@@ -16,14 +13,8 @@ returns c =
     let a = c .before .before .args in
     header-refused (a .side) (a .header) (c .before .refuse-header .result) _ (c .before .refuse-header .ensures) (c .if1 .taken)
 
--- the header's two checks refuse nothing
-abbrev Passed : tie.Start → Type 0
-Passed s =
-    let a = s .args in
-    (sideLong (a .side) (a .header .w) (a .header .h) ≡ false) × (past (a .header .w) (a .header .h) (a .header .lock) ≡ false)
-
-passed : (c : tie.Else1) → Passed (c .before .before)
-passed c = let a = c .before .before .args in header-tests (a .side) (a .header) (sym (c .before .refuse-header .ensures) ∙ c .if1 .left)
+passed : (c : tie.Else1) → Taken (c .before .before .args .side) (c .before .before .args .header)
+passed c = header-taken _ _ (sym (c .before .refuse-header .ensures) ∙ c .if1 .left)
 
 past-requires : tie.Need-past-requires
 past-requires c κs = search needs

@@ -6,11 +6,11 @@ use native.Mathlib.Omega.{arith}
 use lib.Dec.{eqb}
 use lib.ListN.{getD}
 use borrow.Author.Tests.{lt-ltb, le-ltb}
-use Rattle.header.specs.Header.{locked, past}
-use Rattle.machine.specs.Calls.{sideLong, refusalPaint}
+use Rattle.header.specs.Header.{locked}
+use Rattle.machine.specs.Calls.{refusalPaint}
 use Rattle.machine.proofs.Places.{block-lt}
 use Rattle.machine.proofs.Held.{inside-of}
-use Rattle.machine.proofs.Ends.{header-tests, header-refused, small}
+use Rattle.machine.proofs.Ends.{Taken, header-taken, header-refused, small}
 use borrow.Author.Needs.{needs}
 use Rattle.refusals.proofs.refuse_paint.Statement.{statement}
 use Rattle.refusals.proofs.refuse_paint.Tie as tie
@@ -29,14 +29,8 @@ cast-n c = search needs
 cast-n-2 : tie.Need-cast-n-2
 cast-n-2 c = search needs
 
--- the header's two checks refuse nothing
-abbrev Passed : tie.Start → Type 0
-Passed s =
-    let a = s .args in
-    (sideLong (a .side) (a .header .w) (a .header .h) ≡ false) × (past (a .header .w) (a .header .h) (a .header .lock) ≡ false)
-
-passed : (c : tie.Else1) → Passed (c .before .before .before)
-passed c = let a = c .before .before .before .args in header-tests (a .side) (a .header) (sym (c .before .refuse-header .ensures) ∙ c .if1 .left)
+passed : (c : tie.Else1) → Taken (c .before .before .before .args .side) (c .before .before .before .args .header)
+passed c = header-taken _ _ (sym (c .before .refuse-header .ensures) ∙ c .if1 .left)
 
 mul-n : tie.Need-mul-n
 mul-n c =
