@@ -111,14 +111,14 @@ module _ (S : Screen) (L : Lawful S) (w h : ℕ) (sides : sideLong (S .side) w h
   header = headerOf w h s
 
   -- the header is not refused
-  header-taken : (x : ℕ) → refusalHeader (S .side) header x ≡ x
-  header-taken x = beyond (sideLong (S .side) w h) (past w h (s .lock)) 1 10 x sides (g .lock-inside)
+  beyond-header : (x : ℕ) → refusalHeader (S .side) header x ≡ x
+  beyond-header x = beyond (sideLong (S .side) w h) (past w h (s .lock)) 1 10 x sides (g .lock-inside)
 
   refusal-none : refusalAll (S .side) (blockWords S) header (length (s .picture ++ tp)) (length (s .output ++ to)) (length (bytes s ++ tm)) ≡ 0
   refusal-none =
       let m : ℕ = cond (ltb (length (bytes s ++ tm)) (w * h)) 4 0 in
       let o : ℕ = cond (ltb (length (s .output ++ to)) (blockWords S * (w * h))) 3 m in
-      header-taken (cond (ltb (length (s .picture ++ tp)) (w * h)) 2 o)
+      beyond-header (cond (ltb (length (s .picture ++ tp)) (w * h)) 2 o)
       ∙ beyond (ltb (length (s .picture ++ tp)) (w * h)) (ltb (length (s .output ++ to)) (blockWords S * (w * h))) 2 3 m (picture-long S w h s g tp)
       (output-long S w h s g to)
       ∙ ap (λ (t : Bool). cond {A = ℕ} t 4 0) (marks-long S w h s g tm)
@@ -167,7 +167,7 @@ module _ (S : Screen) (L : Lawful S) (w h : ℕ) (sides : sideLong (S .side) w h
       sized : refusalPaint (S .side) header P (length M) column row word ≡ cond (inside w h column row) (own (eqb word (getD P at 0)) K) 5
       sized =
           let x : ℕ = cond (inside w h column row) (own (eqb word (getD P at 0)) K) 5 in
-          header-taken (cond (ltb (length P) (w * h)) 2 (cond (ltb (length M) (w * h)) 4 x))
+          beyond-header (cond (ltb (length P) (w * h)) 2 (cond (ltb (length M) (w * h)) 4 x))
           ∙ beyond (ltb (length P) (w * h)) (ltb (length M) (w * h)) 2 4 x (picture-long S w h s g tp) (marks-long S w h s g tm)
 
       -- what the machine does inside the picture
@@ -281,7 +281,7 @@ module _ (S : Screen) (L : Lawful S) (w h : ℕ) (sides : sideLong (S .side) w h
       sized : refusalShow (S .side) (blockWords S) header (length O) M bx by ≡ cond (inside w h bx by) (cond (isStale (getD M at 0)) 7 0) 5
       sized =
           let x : ℕ = cond (inside w h bx by) (cond (isStale (getD M at 0)) 7 0) 5 in
-          header-taken (cond (ltb (length O) (blockWords S * (w * h))) 3 (cond (ltb (length M) (w * h)) 4 x))
+          beyond-header (cond (ltb (length O) (blockWords S * (w * h))) 3 (cond (ltb (length M) (w * h)) 4 x))
           ∙ beyond (ltb (length O) (blockWords S * (w * h))) (ltb (length M) (w * h)) 3 4 x (output-long S w h s g to) (marks-long S w h s g tm)
 
       by-mark : (b : Bool) → blockAt S w h bx by O ≡ blockAt S w h bx by (s .output)
@@ -304,7 +304,7 @@ module _ (S : Screen) (L : Lawful S) (w h : ℕ) (sides : sideLong (S .side) w h
   pub lock-held : (r : Rectangle) (d : LockEnd) → Locks S header r d
       → _≡_ {A = Header × Answer} (latest header d, Locked (d .refusal) (d .header)) (headerOf w h (step S w h (Lock r) s .0), step S w h (Lock r) s .1)
   unfolding lockEnd
-  lock-held r d q = ap turn (q .is) ∙ ap (λ (f : ℕ). turn (choice f)) (header-taken (cond (past w h r) 10 0)) ∙ by-past (past w h r)
+  lock-held r d q = ap turn (q .is) ∙ ap (λ (f : ℕ). turn (choice f)) (beyond-header (cond (past w h r) 10 0)) ∙ by-past (past w h r)
     where
       turn : LockEnd → Header × Answer
       turn d = (latest header d, Locked (d .refusal) (d .header))
