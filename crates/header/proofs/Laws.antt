@@ -21,7 +21,7 @@ then-not true b e f = e
 then-not false b e f = absurd (true≢false (sym f))
 
 module _ (r : Rectangle) where
-  pub in-lock : (column row : ℕ) → locked r column row ≡ true
+  in-lock : (column row : ℕ) → locked r column row ≡ true
       → (r .left ≤ column) × (column < r .left + r .width) × (r .top ≤ row) × (row < r .top + r .height)
   unfolding locked
   in-lock column row e =
@@ -34,7 +34,7 @@ module _ (r : Rectangle) where
         ltb-true row (r .top + r .height) (y .1),
       )
 
-  pub past-picture : (w h : ℕ) → past w h r ≡ true → (0 < r .width) × (0 < r .height)
+  past-picture : (w h : ℕ) → past w h r ≡ true → (0 < r .width) × (0 < r .height)
   unfolding past
   past-picture w h e =
       let both = and-eq-true-iff (ltb 0 (r .width) && ltb 0 (r .height)) (ltb w (r .left + r .width) || ltb h (r .top + r .height)) .0 e in

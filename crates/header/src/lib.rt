@@ -2,7 +2,7 @@
 // rectangle, the lock. `specs/Header.antt` says what a lock holds and when a rectangle reaches past the picture.
 ghost use mathlib.Core.Path.{_≡_};
 ghost use Prim.Native.Nat.{_+_};
-ghost use Rattle.header.specs.Header.{locked, past, fresh, noHeader};
+ghost use Rattle.header.specs.Header.{locked, past, fresh, withLock, noHeader};
 
 // A rectangle of the picture: its first column and row, its columns and rows. As a lock of width or height 0 it locks nothing, whatever
 // the other three are.
@@ -32,6 +32,17 @@ pub fn fresh(w: u32, h: u32) -> Header
             width: 0,
             height: 0,
         },
+    }
+}
+
+// The header with another lock.
+pub fn with_lock(header: Header, lock: Rectangle) -> Header
+    ensures { λ r. ⌜ r ≡ withLock header lock ⌝ }
+{
+    Header {
+        w: header.w,
+        h: header.h,
+        lock,
     }
 }
 

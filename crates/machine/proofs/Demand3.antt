@@ -164,7 +164,7 @@ accepted r d x y n q z = by-test (eqb r 0) refl q
 
 module _ (S : Screen) (L : Lawful S) (w h : ℕ) (b : Buffers) where
   -- the buffers that hold a state, with what b has behind
-  abbrev pub keep : State → Buffers
+  abbrev keep : State → Buffers
   keep s = held (drop (w * h) (b .picture)) (drop (blockWords S * (w * h)) (b .output)) (drop (w * h) (b .marks)) s
 
   module _ {stale : ℕ} {cs : List Call} {rs : List Answer} {last : Header} {e : Buffers} (t : Trace S w h b stale cs rs last e) where

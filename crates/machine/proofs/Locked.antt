@@ -39,7 +39,7 @@ module _ (S : Screen) (L : Lawful S) (w h column row : ℕ) where
             true≢false (sym e ∙ ap₂ (locked (s .lock)) (d .1) (d .0) ∙ f)),
       ))
 
-  pub locked-kept : {cs : List Call} → LocksNothing cs → (s : State) → Good S w h s → locked (s .lock) column row ≡ true
+  locked-kept : {cs : List Call} → LocksNothing cs → (s : State) → Good S w h s → locked (s .lock) column row ≡ true
       → wordOf (after S w h cs s) ≡ wordOf s
   locked-kept none s g e = refl
   locked-kept (paint {column = x} {row = y} {word = word} n) s g e =
@@ -54,7 +54,7 @@ module _ (S : Screen) (L : Lawful S) {w h stale : ℕ} {b e : Buffers} {cs : Lis
   pub locked-stays : {more-calls : List Call} {rs′ : List Answer} {last′ : Header} {e′ : Buffers} → LocksNothing more-calls
       → Ran S last e more-calls rs′ last′ e′ → (column row : ℕ) → locked (last .lock) column row ≡ true
       → getD (e′ .picture) (row * w + column) 0 ≡ getD (e .picture) (row * w + column) 0
-  locked-stays {more-calls} {e′ = e′} n r column row k =
+  locked-stays {more-calls} n r column row k =
       let m = met S L w h b t in
       let g = good-met S L w h b t in
       let now = ended S L w h b t in

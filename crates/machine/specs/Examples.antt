@@ -2,7 +2,6 @@
 -- line mends what the line before was refused for. Assumes nothing.
 use mathlib.Core.Path.{_≡_, refl}
 use mathlib.Core.List.{[], _∷_}
-use Prim.Native.Nat.{ℕ}
 use Rattle.picture.specs.Refusal as refusal
 use Rattle.header.specs.declared.Rectangle.{Rectangle}
 use Rattle.header.specs.declared.Header.{Header}
@@ -16,47 +15,47 @@ filling = record { left = 0; top = 0; width = 1; height = 1 }
 abbrev across : Rectangle
 across = record { left = 1; top = 0; width = 1; height = 1 }
 
--- a header of w by 1
-abbrev with : ℕ → Rectangle → Header
-with w l = record { w = w; h = 1; lock = l }
+-- the header of a picture of one pixel with a lock
+abbrev with : Rectangle → Header
+with lock = record { w = 1; h = 1; lock = lock }
 
 -- opening and refresh: 1, 10, 2, 3, 4
-pub all-order : (refusalAll 0 9 (with 1 across) 0 0 0 ≡ refusal.side)
-    × (refusalAll 1 9 (with 1 across) 0 0 0 ≡ refusal.lock)
-    × (refusalAll 1 9 (with 1 filling) 0 0 0 ≡ refusal.picture)
-    × (refusalAll 1 9 (with 1 filling) 1 8 0 ≡ refusal.output)
-    × (refusalAll 1 9 (with 1 filling) 1 9 0 ≡ refusal.scratch)
-    × (refusalAll 1 9 (with 1 filling) 1 9 1 ≡ refusal.none)
+pub all-order : (refusalAll 0 9 (with across) 0 0 0 ≡ refusal.side)
+    × (refusalAll 1 9 (with across) 0 0 0 ≡ refusal.lock)
+    × (refusalAll 1 9 (with filling) 0 0 0 ≡ refusal.picture)
+    × (refusalAll 1 9 (with filling) 1 8 0 ≡ refusal.output)
+    × (refusalAll 1 9 (with filling) 1 9 0 ≡ refusal.scratch)
+    × (refusalAll 1 9 (with filling) 1 9 1 ≡ refusal.none)
 unfolding past
 all-order = (refl, refl, refl, refl, refl, refl)
 
 -- paint: 1, 10, 2, 4, 5, the equal word, 11
-pub paint-order : (refusalPaint 0 (with 1 across) [] 0 1 0 8 ≡ refusal.side)
-    × (refusalPaint 1 (with 1 across) [] 0 1 0 8 ≡ refusal.lock)
-    × (refusalPaint 1 (with 1 filling) [] 0 1 0 8 ≡ refusal.picture)
-    × (refusalPaint 1 (with 1 filling) (7 ∷ []) 0 1 0 8 ≡ refusal.scratch)
-    × (refusalPaint 1 (with 1 filling) (7 ∷ []) 1 1 0 8 ≡ refusal.outside)
-    × (refusalPaint 1 (with 1 filling) (7 ∷ []) 1 0 0 7 ≡ refusal.none)
-    × (refusalPaint 1 (with 1 filling) (7 ∷ []) 1 0 0 8 ≡ refusal.locked)
-    × (refusalPaint 1 (with 1 noLock) (7 ∷ []) 1 0 0 8 ≡ refusal.none)
+pub paint-order : (refusalPaint 0 (with across) [] 0 1 0 8 ≡ refusal.side)
+    × (refusalPaint 1 (with across) [] 0 1 0 8 ≡ refusal.lock)
+    × (refusalPaint 1 (with filling) [] 0 1 0 8 ≡ refusal.picture)
+    × (refusalPaint 1 (with filling) (7 ∷ []) 0 1 0 8 ≡ refusal.scratch)
+    × (refusalPaint 1 (with filling) (7 ∷ []) 1 1 0 8 ≡ refusal.outside)
+    × (refusalPaint 1 (with filling) (7 ∷ []) 1 0 0 7 ≡ refusal.none)
+    × (refusalPaint 1 (with filling) (7 ∷ []) 1 0 0 8 ≡ refusal.locked)
+    × (refusalPaint 1 (with noLock) (7 ∷ []) 1 0 0 8 ≡ refusal.none)
 unfolding past locked
 paint-order = (refl, refl, refl, refl, refl, refl, refl, refl)
 
 -- show: 1, 10, 3, 4, 5, 7
-pub show-order : (refusalShow 0 9 (with 1 across) 8 [] 0 1 ≡ refusal.side)
-    × (refusalShow 1 9 (with 1 across) 8 [] 0 1 ≡ refusal.lock)
-    × (refusalShow 1 9 (with 1 filling) 8 [] 0 1 ≡ refusal.output)
-    × (refusalShow 1 9 (with 1 filling) 9 [] 0 1 ≡ refusal.scratch)
-    × (refusalShow 1 9 (with 1 filling) 9 (1 ∷ []) 0 1 ≡ refusal.outside)
-    × (refusalShow 1 9 (with 1 filling) 9 (1 ∷ []) 0 0 ≡ refusal.stale)
-    × (refusalShow 1 9 (with 1 filling) 9 (0 ∷ []) 0 0 ≡ refusal.none)
+pub show-order : (refusalShow 0 9 (with across) 8 [] 0 1 ≡ refusal.side)
+    × (refusalShow 1 9 (with across) 8 [] 0 1 ≡ refusal.lock)
+    × (refusalShow 1 9 (with filling) 8 [] 0 1 ≡ refusal.output)
+    × (refusalShow 1 9 (with filling) 9 [] 0 1 ≡ refusal.scratch)
+    × (refusalShow 1 9 (with filling) 9 (1 ∷ []) 0 1 ≡ refusal.outside)
+    × (refusalShow 1 9 (with filling) 9 (1 ∷ []) 0 0 ≡ refusal.stale)
+    × (refusalShow 1 9 (with filling) 9 (0 ∷ []) 0 0 ≡ refusal.none)
 unfolding past
 show-order = (refl, refl, refl, refl, refl, refl, refl)
 
 -- a lock: 1, 10 for the header's, 10 for the one that is given
-pub lock-order : (refusalLock 0 (with 1 across) across ≡ refusal.side)
-    × (refusalLock 1 (with 1 across) noLock ≡ refusal.lock)
-    × (refusalLock 1 (with 1 filling) across ≡ refusal.lock)
-    × (refusalLock 1 (with 1 filling) noLock ≡ refusal.none)
+pub lock-order : (refusalLock 0 (with across) across ≡ refusal.side)
+    × (refusalLock 1 (with across) noLock ≡ refusal.lock)
+    × (refusalLock 1 (with filling) across ≡ refusal.lock)
+    × (refusalLock 1 (with filling) noLock ≡ refusal.none)
 unfolding past
 lock-order = (refl, refl, refl, refl)

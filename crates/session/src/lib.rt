@@ -7,6 +7,7 @@ use header::Header;
 use header::Rectangle;
 use header::fresh;
 use header::no_header;
+use header::with_lock;
 use marks::count_stale;
 use marks::mark_run;
 use picture::place::least;
@@ -224,6 +225,7 @@ impl Session {
             words: read_block(output, header.w, header.h, bx, by),
         }
     }
+
     // The header with another rectangle locked; one of width or height 0 locks nothing.
     pub fn lock(self, lock: Rectangle) -> Locked
         ensures { λ r. ⌜ Locks screen3 (self .header) lock (record { refusal = r .refusal; header = r .session .header }) ⌝ }
@@ -231,6 +233,7 @@ impl Session {
         let header = self.header;
         let refusal = refuse_lock(Session::SIDE, header, lock);
         let refused = no_header();
+        let locked = with_lock(header, lock);
         if refusal != 0 {
             return Locked {
                 refusal,
@@ -239,13 +242,7 @@ impl Session {
         }
         Locked {
             refusal: 0,
-            session: Session {
-                header: Header {
-                    w: header.w,
-                    h: header.h,
-                    lock,
-                },
-            },
+            session: Session { header: locked },
         }
     }
 }
