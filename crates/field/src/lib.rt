@@ -9,13 +9,15 @@ use grid::store_singles;
 use grid::weights_in;
 use grid::word_in;
 use junction::Junctions;
-use metric::Metric;
+use metric::Known;
+use metric::Measured;
 use metric::Weights;
 ghost use mathlib.Core.Path.{_≡_};
 ghost use Prim.Native.Nat.{_+_, _*_, _<_, _≤_};
 ghost use lib.ListN.{length, take};
 ghost use Rattle.picture.specs.Picture.{words};
 ghost use Rattle.picture.specs.Fill.{put};
+ghost use Rattle.metric.specs.Distance.{distanceOf};
 ghost use Rattle.metric.specs.Metric.{metrics};
 ghost use Rattle.metric.specs.Weight.{weights};
 ghost use Rattle.junction.specs.Junction.{junctions};
@@ -23,10 +25,11 @@ ghost use Rattle.grid.specs.Grid.{ofMetric, ofWeights, ofJunctions, metricField
 ghost use Rattle.grid.specs.Grid.{weightsField, rowOf, rectOf};
 ghost use Rattle.grid.specs.Room.{Held, Around, Strip, Inner, Reads, Feeds};
 
-// The metric of the pixel (x, y).
-fn metric_at(picture: &[u32], w: u32, h: u32, x: u32, y: u32) -> Metric
-    requires { ⌜ (x < w) × ((y < h) × (w * h ≤ length (now picture))) ⌝ }
-    ensures { λ m. ⌜ m ≡ metrics w h (words w (now (picture .entry))) x y ⌝ }
+// The metric of the pixel (x, y), after one whose distance k is known.
+fn metric_at(picture: &[u32], w: u32, h: u32, x: u32, y: u32, k: Known) -> Measured
+    requires { ⌜ ((x < w) × ((y < h) × (w * h ≤ length (now picture)))) × (k .d ≡ distanceOf (k .p) (k .q)) ⌝ }
+    ensures { λ m. ⌜ (m .metric ≡ metrics w h (words w (now (picture .entry))) x y)
+        × (m .known .d ≡ distanceOf (m .known .p) (m .known .q)) ⌝ }
 {
     let xs = three_at(x, w);
     let ys = three_at(y, h);
@@ -36,6 +39,7 @@ fn metric_at(picture: &[u32], w: u32, h: u32, x: u32, y: u32) -> Metric
         word_in(picture, w, h, xs.at, ys.before),
         word_in(picture, w, h, xs.after, ys.before),
         word_in(picture, w, h, xs.after, ys.at),
+        k,
     )
 }
 
@@ -47,11 +51,14 @@ fn metrics_row(picture: &[u32], w: u32, h: u32, g: Grid, y: u32, singles: &mut [
 {
     let cols = g.cols;
     let x0 = g.x0;
+    let mut known = Known { p: 0, q: 0, d: 0.0 };
     let mut x: u32 = 0;
     let mut i = at;
     while x < cols {
-        let m = metric_at(picture, w, h, x0 + x, y);
+        let measured = metric_at(picture, w, h, x0 + x, y, known);
+        let m = measured.metric;
         store_singles(singles, i, m.tl, m.t, m.tr, m.r);
+        known = measured.known;
         i += 4;
         x += 1;
     }

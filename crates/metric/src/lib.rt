@@ -91,31 +91,65 @@ fn distance_by(c: u32, q: u32, o: u32, d: f32) -> f32
     color_distance(c, q)
 }
 
+// Two words and their distance, kept for the pixels that follow.
+pub struct Known {
+    pub p: u32,
+    pub q: u32,
+    pub d: f32,
+}
+
+// The distance of p and q: the one that is known, where it is that of these two words.
+fn distance_after(k: Known, p: u32, q: u32) -> f32
+    requires { ⌜ k .d ≡ distanceOf (k .p) (k .q) ⌝ }
+    ensures { λ r. ⌜ r ≡ distanceOf p q ⌝ }
+{
+    if (p == k.p) & (q == k.q) {
+        return k.d;
+    }
+    if (p == k.q) & (q == k.p) {
+        return k.d;
+    }
+    color_distance(p, q)
+}
+
+// A pixel's metric, and the distance that is known after it.
+pub struct Measured {
+    pub metric: Metric,
+    pub known: Known,
+}
+
 // The metric of the pixel c, beside its neighbours.
-pub fn metric_of(c: u32, tl: u32, t: u32, tr: u32, r: u32) -> Metric
-    ensures { λ m. ⌜ m ≡ metricOf c tl t tr r ⌝ }
+pub fn metric_of(c: u32, tl: u32, t: u32, tr: u32, r: u32, k: Known) -> Measured
+    requires { ⌜ k .d ≡ distanceOf (k .p) (k .q) ⌝ }
+    ensures { λ m. ⌜ (m .metric ≡ metricOf c tl t tr r) × (m .known .d ≡ distanceOf (m .known .p) (m .known .q)) ⌝ }
 {
     // On plain ground one test serves for all four.
     if same(c, tl) & same(c, t) & same(c, tr) & same(c, r) {
-        return Metric {
+        let metric = Metric {
             tl: 0.0,
             t: 0.0,
             tr: 0.0,
             r: 0.0,
         };
+        return Measured { metric, known: k };
     }
-    // A page has few colours: the neighbours that differ from c are mostly one word, and its root serves for all of them.
+    // A page has few colours: the neighbours that differ from c are mostly one word, and its root serves for all of them, and for the
+    // next pixel too where that has the same two words.
     let o = pick(
         same(c, tl),
         pick(same(c, t), pick(same(c, tr), r, tr), t),
         tl,
     );
-    let d = color_distance(c, o);
-    Metric {
+    let d = distance_after(k, c, o);
+    let metric = Metric {
         tl: distance_by(c, tl, o, d),
         t: distance_by(c, t, o, d),
         tr: distance_by(c, tr, o, d),
         r: distance_by(c, r, o, d),
+    };
+    Measured {
+        metric,
+        known: Known { p: c, q: o, d },
     }
 }
 

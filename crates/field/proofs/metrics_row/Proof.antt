@@ -1,12 +1,14 @@
 -- `field::metrics_row` meets its contract: the invariant says that the row's first x records stand from `at` on. Assumes nothing.
 use native.Mathlib.Omega.{arith}
-use mathlib.Core.Path.{_≡_, refl, ap}
+use mathlib.Core.Path.{_≡_, refl, sym, ap}
 use mathlib.Core.List.{List}
 use Prim.Native.Nat.{ℕ, _+_, _*_, _-_, _≤_}
-use lib.Ieee.{Float}
+use lib.Ieee.{Float, ofBits}
 use Rattle.picture.specs.Picture.{words}
 use Rattle.picture.specs.Fill.{Filled, fill-none, fill-more, fill-done}
+use Rattle.metric.specs.Distance.{distanceOf}
 use Rattle.metric.specs.Metric.{metrics}
+use Rattle.metric.proofs.Laws.{distance-zero}
 use Rattle.grid.specs.Grid.{ofMetric, rowOf}
 use Rattle.field.proofs.metrics_row.Statement.{statement}
 use Rattle.field.proofs.metrics_row.Tie as tie
@@ -16,22 +18,27 @@ abbrev chunks : List ℕ → ℕ → ℕ → ℕ → ℕ → ℕ → List Float
 chunks picture w h x0 y i = ofMetric (metrics w h (words w picture) (x0 + i) y)
 
 abbrev Inv-loop : tie.InvT-loop
-Inv-loop picture w h y singles₀ at cols x0 x₀ i₀ singles x i =
-    (x ≤ cols) × (i ≡ at + x * 4) × Filled at 4 x (chunks picture w h x0 y) singles₀ singles
+Inv-loop picture w h y singles₀ at cols x0 known₀ x₀ i₀ singles known x i =
+    (x ≤ cols) × (i ≡ at + x * 4) × Filled at 4 x (chunks picture w h x0 y) singles₀ singles × (known .d ≡ distanceOf (known .p) (known .q))
 
 abbrev μ-loop : tie.MeasureT-loop
-μ-loop picture w h y singles₀ at cols x0 x₀ i₀ singles x i = cols - x
+μ-loop picture w h y singles₀ at cols x0 known₀ x₀ i₀ singles known x i = cols - x
 
 loop-holds : tie.Need-loop-holds Inv-loop μ-loop
+unfolding ofBits
 loop-holds c =
-    let a = c .before .before .args in
-    (omega arith, omega arith, fill-none (a .at) 4 (chunks (a .picture .now) (a .w) (a .h) (a .g .x0) (a .y)) (a .singles .now) (omega arith))
+    let a = c .before .before .args in (
+      omega arith,
+      omega arith,
+      fill-none (a .at) 4 (chunks (a .picture .now) (a .w) (a .h) (a .g .x0) (a .y)) (a .singles .now) (omega arith),
+      sym (distance-zero 0 0 .1 refl),
+    )
 
 add-metric-at : tie.Need-add-metric-at Inv-loop μ-loop
 add-metric-at c = omega arith
 
 metric-at-requires : tie.Need-metric-at-requires Inv-loop μ-loop
-metric-at-requires c κs = let p = c .before .before .before .before .pre in (omega arith, (p .1 .0 .line, p .0))
+metric-at-requires c κs = let p = c .before .before .before .before .pre in ((omega arith, (p .1 .0 .line, p .0)), c .before .loop .inv .3)
 
 store-singles-requires : tie.Need-store-singles-requires Inv-loop μ-loop
 store-singles-requires c κs = omega arith
@@ -47,14 +54,17 @@ loop-less c = omega arith
 
 loop-again : tie.Need-loop-again Inv-loop μ-loop
 loop-again c =
-    let at-loop = c .before .before .before .before .before .before in
+    let at-loop = c .before .before .before .before .before .before .before .before in
     let s = at-loop .loop in
-    let a = at-loop .before .before .before .args in (
+    let a = at-loop .before .before .before .args in
+    let stored = c .before .before .before .store-singles in
+    let measured = c .before .before .before .before .before .before .metric-at in (
       omega arith,
       omega arith,
-      fill-more (a .at) 4 (s .x) (chunks (a .picture .now) (a .w) (a .h) (a .g .x0) (a .y)) (a .singles .now) (s .singles) (c .before .before .store-singles .last .0)
-          (s .i) _ (λ j. refl) (omega arith) (s .inv .2) (s .inv .1) (ap ofMetric (c .before .before .before .before .metric-at .ensures))
-          (c .before .before .store-singles .ensures),
+      fill-more (a .at) 4 (s .x) (chunks (a .picture .now) (a .w) (a .h) (a .g .x0) (a .y)) (a .singles .now) (s .singles) (stored .last .0)
+          (s .i) _ (λ j. refl) (omega arith) (s .inv .2) (s .inv .1) (ap ofMetric (measured .ensures .0))
+          (stored .ensures),
+      measured .ensures .1,
     )
 
 same-length : tie.Need-same-length Inv-loop μ-loop
