@@ -5,3 +5,4 @@ pub mod Passes
 pub mod Table
 pub mod Store
 pub mod StoreLaws
+pub mod Strips

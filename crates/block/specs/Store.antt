@@ -1,8 +1,10 @@
 -- Blocks stored side by side, row after row, in an output of rows of ow words, and the room that they ask for. Definitions only.
+use mathlib.Core.Path.{_≡_}
+use mathlib.Core.Bool.{Bool, cond}
 use mathlib.Core.List.{List, [], _∷_}
-use Prim.Native.Nat.{ℕ, zero, suc, _+_, _*_, _≤_}
-use lib.ListN.{getD}
-use Rattle.picture.specs.Fill.{put}
+use Prim.Native.Nat.{ℕ, zero, suc, _+_, _*_, _≤_, _<_}
+use lib.ListN.{getD, set}
+use Rattle.picture.specs.Fill.{put, flat}
 
 -- row q of a block
 abbrev pub third : ℕ → List ℕ → List ℕ
@@ -22,16 +24,48 @@ unfoldable pub putRect : ℕ → ℕ → ℕ → ℕ → (ℕ → ℕ → List �
 putRect ow at k zero blocks l = l
 putRect ow at k (suc n) blocks l = putRow ow (at + n * (3 * ow)) k (λ i. blocks i n) (putRect ow at k n blocks l)
 
--- there is room in an output of o words for k blocks from column x on, side by side from `at` on; their tags are in t bytes from `from` on
-pub record RowRoom (w x k from t ow at o : ℕ) : Type 0 where
+-- each of k words c three times, side by side
+abbrev pub thrice : ℕ → (ℕ → ℕ) → List ℕ
+thrice k c = flat k (λ i. c i ∷ c i ∷ c i ∷ [])
+
+-- the words s in three rows of the output, one below the other, the first at `at`
+abbrev pub thriceBelow : ℕ → ℕ → List ℕ → List ℕ → List ℕ
+thriceBelow ow at s l = put (at + 2 * ow) s (put (at + ow) s (put at s l))
+
+-- three copies of the word c stand from `at` on
+abbrev pub Copies : ℕ → ℕ → List ℕ → Type 0
+Copies at c l = (j : ℕ) → j < 3 → getD l (at + j) 0 ≡ c
+
+-- the block at `at` is nine copies of the word c
+pub record Plain (ow at c : ℕ) (l : List ℕ) : Type 0 where
+  pub top : Copies at c l
+  pub middle : Copies (at + ow) c l
+  pub bottom : Copies (at + 2 * ow) c l
+
+-- and so are k blocks side by side, of the words c
+abbrev pub Copied : ℕ → ℕ → ℕ → (ℕ → ℕ) → List ℕ → Type 0
+Copied ow at k c l = (i : ℕ) → i < k → Plain ow (at + i * 3) (c i) l
+
+-- the word v stored at `at`, unless what stands there is to stay
+abbrev pub storedUnless : Bool → ℕ → ℕ → List ℕ → List ℕ
+storedUnless stays at v l = cond stays l (set l at v)
+
+-- there is room in an output of o words for k blocks from (x, y) on, side by side from `at` on, in rows of ow words; the picture is in p
+-- words, and their tags are in t bytes from `from` on
+pub record RowRoom (w h x y k from p t ow at o : ℕ) : Type 0 where
   pub along : x + k ≤ w
+  pub down : y < h
+  pub picture : w * h ≤ p
   pub tags : from + k * 4 ≤ t
+  pub apart : k * 3 ≤ ow
   pub words : at + 2 * ow + k * 3 ≤ o
 
 -- there is room for k by r blocks from (x, y) on: the last of the output's rows may end with them. Rows are of at most 65,536 words, far
 -- more than the 3 * 2,048 of any output, so that no place wraps.
-pub record RectRoom (w h x y k r ow at o : ℕ) : Type 0 where
+pub record RectRoom (w h x y k r p ow at o : ℕ) : Type 0 where
   pub along : x + k ≤ w
   pub down : y + r ≤ h
+  pub picture : w * h ≤ p
+  pub apart : k * 3 ≤ ow
   pub words : at + r * (3 * ow) + k * 3 ≤ o + ow
   pub wide : ow ≤ 65536

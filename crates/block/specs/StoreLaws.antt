@@ -20,7 +20,7 @@ block-long ow at b l room =
     let n₂ : length l₂ ≡ length l = length-put (at + ow) (third 1 b) l₁ (omega arith) ∙ n₁ in
     length-put (at + 2 * ow) (third 2 b) l₂ (omega arith) ∙ n₂
 
-row-long : (ow at : ℕ) (blocks : ℕ → List ℕ) (l : List ℕ) (n : ℕ) → at + 2 * ow + n * 3 ≤ length l
+pub row-long : (ow at : ℕ) (blocks : ℕ → List ℕ) (l : List ℕ) (n : ℕ) → at + 2 * ow + n * 3 ≤ length l
     → length (putRow ow at n blocks l) ≡ length l
 unfolding putRow
 row-long ow at blocks l zero room = refl

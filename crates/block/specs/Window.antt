@@ -1,7 +1,7 @@
--- What the passes ask of the rectangles that they run on, one after the other, and what they leave; the rectangles round a tile of pixels;
--- and the words that a block may have. What the code computes by; nothing of the rules rests on it. Definitions only.
+-- What the passes ask of the rectangles that they run on, one after the other, and what they leave; the rectangles round a tile of pixels.
+-- What the code computes by; nothing of the rules rests on it. Definitions only.
 use mathlib.Core.Path.{_≡_}
-use mathlib.Core.List.{List, [], _∷_}
+use mathlib.Core.List.{List}
 use Prim.Native.Nat.{ℕ, _+_, _-_, _*_, _≤_, _<_, min}
 use lib.Ieee.{Float}
 use lib.ListN.{length, drop}
@@ -11,7 +11,7 @@ use Rattle.metric.specs.Weight.{weights}
 use Rattle.grid.specs.declared.Grid.{Grid}
 use Rattle.grid.specs.Grid.{ofMetric, ofWeights, ofJunctions, ofTags, tagsAt, rectOf}
 use Rattle.grid.specs.Room.{Held, Inner, Feeds}
-use Rattle.block.specs.Block.{pictureJunctions, pictureTags, tagWord}
+use Rattle.block.specs.Block.{pictureJunctions, pictureTags}
 
 -- metrics of g before the cut and weights of v from there on in s singles, junctions of q before `from` and tags of t from there on in b
 -- bytes: there is room, and each rectangle holds what the next one reads
@@ -72,9 +72,3 @@ pub record TileTagged (w h : ℕ) (f : ℕ → ℕ → ℕ) (x y k r : ℕ) (b b
       (put 0 (rectOf ofJunctions (ringOf w h x y k r 3) (pictureJunctions w h f)) b)
   pub long : length b′ ≡ length b
   pub each : (i j : ℕ) → i < k → j < r → tagsAt (drop tileJunctions b′) ((j * k + i) * 4) ≡ pictureTags w h f (x + i) (y + j)
-
--- the words of all nine tags
-unfoldable pub wordsByTag : ℕ → ℕ → (ℕ → ℕ → ℕ) → ℕ → ℕ → List ℕ
-wordsByTag w h f x y =
-    let word = tagWord w h f x y in
-    word 0 ∷ word 1 ∷ word 2 ∷ word 3 ∷ word 4 ∷ word 5 ∷ word 6 ∷ word 7 ∷ word 8 ∷ []

@@ -1,12 +1,11 @@
-// The passes on rectangles each of which holds what the next one reads, the tags of a tile of pixels from the picture alone, and the nine
-// words of a block that its tags name.
+// The passes on rectangles each of which holds what the next one reads, the tags of a tile of pixels from the picture alone, and the
+// word that a tag names.
 use field::junctions_rect;
 use field::metrics_rect;
 use field::weights_rect;
 use grid::Grid;
 use picture::place::least;
 use picture::place::saturating_sub;
-use tag::Tags;
 use tagged::tags_rect;
 ghost use mathlib.Core.Path.{_≡_};
 ghost use Prim.Native.Nat.{_+_, _-_, _*_, _≤_};
@@ -16,9 +15,10 @@ ghost use Rattle.picture.specs.Fill.{put};
 ghost use Rattle.grid.specs.Grid.{ofJunctions, metricField, weightsField, rectOf};
 ghost use Rattle.grid.specs.Room.{Held, Feeds};
 ghost use Rattle.junction.specs.Junction.{junctions};
-ghost use Rattle.block.specs.Block.{tagWord, blockFrom};
-ghost use Rattle.block.specs.Window.{Tile, ringOf, Rooms, Passed, TileTagged, tileBytes, wordsByTag};
+ghost use Rattle.block.specs.Block.{tagWord};
+ghost use Rattle.block.specs.Window.{Tile, ringOf, Rooms, Passed, TileTagged, tileBytes};
 
+mod copy;
 pub mod store;
 
 // The most columns and rows of a tile.
@@ -124,45 +124,4 @@ fn tag_word(picture: &[u32], w: u32, h: u32, x: u32, y: u32, tag: u8) -> u32
 {
     let o = tag::neighbor_offset(tag);
     picture::get(picture, w, h, x, y, o.dx, o.dy)
-}
-
-// The nine words that a tag may name, by tag. The offsets are known when this is compiled, so each place is worked out once.
-fn words_by_tag(picture: &[u32], w: u32, h: u32, x: u32, y: u32) -> [u32; 9]
-    ensures { λ q. ⌜ q ≡ wordsByTag w h (words w (now (picture .entry))) x y ⌝ }
-{
-    [
-        tag_word(picture, w, h, x, y, 0),
-        tag_word(picture, w, h, x, y, 1),
-        tag_word(picture, w, h, x, y, 2),
-        tag_word(picture, w, h, x, y, 3),
-        tag_word(picture, w, h, x, y, 4),
-        tag_word(picture, w, h, x, y, 5),
-        tag_word(picture, w, h, x, y, 6),
-        tag_word(picture, w, h, x, y, 7),
-        tag_word(picture, w, h, x, y, 8),
-    ]
-}
-
-// The nine words of the block of (x, y), row by row, from its tags.
-pub fn block_from(picture: &[u32], w: u32, h: u32, x: u32, y: u32, t: Tags) -> [u32; 9]
-    ensures { λ q. ⌜ q ≡ blockFrom w h (words w (now (picture .entry))) x y t ⌝ }
-{
-    // Where no tag names a neighbour, as on most of a page, the block is nine copies of its pixel.
-    let sum = t.t0 as u32 + t.t1 as u32 + t.t2 as u32 + t.t3 as u32;
-    if sum == 0 {
-        let c = tag_word(picture, w, h, x, y, 0);
-        return [c, c, c, c, c, c, c, c, c];
-    }
-    let c = words_by_tag(picture, w, h, x, y);
-    [
-        c[(t.t0 % 9) as usize],
-        c[(t.t0 / 9 % 9) as usize],
-        c[(t.t1 % 9) as usize],
-        c[(t.t3 / 9 % 9) as usize],
-        c[0],
-        c[(t.t1 / 9 % 9) as usize],
-        c[(t.t3 % 9) as usize],
-        c[(t.t2 / 9 % 9) as usize],
-        c[(t.t2 % 9) as usize],
-    ]
 }

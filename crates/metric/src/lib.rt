@@ -103,10 +103,7 @@ fn distance_after(k: Known, p: u32, q: u32) -> f32
     requires { ⌜ k .d ≡ distanceOf (k .p) (k .q) ⌝ }
     ensures { λ r. ⌜ r ≡ distanceOf p q ⌝ }
 {
-    if (p == k.p) & (q == k.q) {
-        return k.d;
-    }
-    if (p == k.q) & (q == k.p) {
+    if (p == k.p) & (q == k.q) | (p == k.q) & (q == k.p) {
         return k.d;
     }
     color_distance(p, q)

@@ -1,6 +1,6 @@
 -- A list that is written over from a place on, and a run of chunks that is written one after the other. Assumes nothing.
 use mathlib.Core.Path.{_≡_, refl, sym, _∙_, ap, ap₂}
-use mathlib.Core.List.{List, [], _∷_, _++_, append-assoc}
+use mathlib.Core.List.{List, [], _∷_, _++_, append-assoc, append-nil}
 use Prim.Native.Nat.{ℕ, zero, suc, _+_, _-_, _*_, _≤_, _<_}
 use native.Mathlib.Nat.{add-mul, mul-assoc, suc-mul, zero-mul, add-zero, add-assoc, mul-le-mul-right}
 use native.Mathlib.Numerals.{add-one, add-two, add-three}
@@ -9,7 +9,7 @@ use mathlib.Core.Bool.{Bool, true, false}
 use lib.Dec.{ltb}
 use borrow.Author.Tests.{ltb-true, ltb-false}
 use lib.ListN.{take-append-drop, length, getD, take, drop, set, length-append, length-take, length-drop, List·getD-append}
-use lib.Seq.{take-take, sets, sets-eq, set-comm, take-append-le}
+use lib.Seq.{take-take, sets, sets-eq, set-comm, take-append-le, getD-take, getD-drop, drop-at}
 use lib.Seq.{take-at, drop-drop, length-take-le, drop-append-add, getD-append-add}
 
 -- entry j of chunk i stands before the end of n chunks; and so does the chunk's end
@@ -74,6 +74,26 @@ module _ {A : Type 0} where
   getD-put b vs l i d hi hb =
       getD-past (take b l) (vs ++ drop (b + length vs) l) b i d (length-take-le b l hb)
       ∙ List·getD-append vs (drop (b + length vs) l) d i hi
+
+  -- what is read beside the place
+  pub getD-off : (b : ℕ) (vs l : List A) (p : ℕ) (d : A) → b + length vs ≤ length l → (b ≤ p → b + length vs ≤ p)
+      → getD (put b vs l) p d ≡ getD l p d
+  unfolding put
+  getD-off b vs l p d room off = by-test (ltb p b) refl
+    where
+      by-test : (t : Bool) → ltb p b ≡ t → getD (take b l ++ (vs ++ drop (b + length vs) l)) p d ≡ getD l p d
+      by-test true q =
+          List·getD-append (take b l) (vs ++ drop (b + length vs) l) d p (simp length-take (omega (arith, ltb-true p b q)))
+          ∙ getD-take b l p d (ltb-true p b q)
+      by-test false q =
+          let n = b + length vs in
+          let m = p - n in
+          let z : p ≡ n + m = omega (arith, off (ltb-false p b q)) in
+          ap (λ (i : ℕ). getD (take b l ++ (vs ++ drop n l)) i d) z
+          ∙ ap (λ (k : List A). getD k (n + m) d) (sym (append-assoc (take b l) vs (drop n l)))
+          ∙ getD-past (take b l ++ vs) (drop n l) n m d (simp (length-append, length-take) (omega arith))
+          ∙ getD-drop n l m d
+          ∙ ap (λ (i : ℕ). getD l i d) (sym z)
 
   -- element j of chunk i; the chunks below the end are of one length
   pub length-flat-below : (k : ℕ) (r : ℕ → List A) (n : ℕ) → ((i : ℕ) → i < n → length (r i) ≡ k) → length (flat n r) ≡ n * k
@@ -141,6 +161,29 @@ module _ {A : Type 0} where
 
   pub fill-done : (b k n m : ℕ) (r : ℕ → List A) (l₀ l : List A) → Filled b k n r l₀ l → n ≡ m → l ≡ put b (flat m r) l₀
   fill-done b k n m r l₀ l f e = f .is ∙ ap (λ (i : ℕ). put b (flat i r) l₀) e
+
+  -- m chunks more, put at once
+  flat-split : (n m : ℕ) (r : ℕ → List A) → flat (n + m) r ≡ flat n r ++ flat m (λ j. r (n + j))
+  flat-split n zero r = ap (λ (i : ℕ). flat i r) (add-zero n) ∙ sym (append-nil (flat n r))
+  flat-split n (suc m) r =
+      let e : n + suc m ≡ suc (n + m) = omega arith in
+      ap (λ (i : ℕ). flat i r) e
+      ∙ ap (λ (l : List A). l ++ r (n + m)) (flat-split n m r)
+      ∙ append-assoc (flat n r) (flat m (λ j. r (n + j))) (r (n + m))
+
+  pub fill-run : (b k n m : ℕ) (r : ℕ → List A) (l₀ l l′ : List A) (i : ℕ) → ((j : ℕ) → length (r j) ≡ k)
+      → b + (n * k + m * k) ≤ length l₀
+      → Filled b k n r l₀ l → i ≡ b + n * k → l′ ≡ put i (flat m (λ j. r (n + j))) l → Filled b k (n + m) r l₀ l′
+  fill-run b k n m r l₀ l l′ i lens room f ei e =
+      let v = flat m (λ j. r (n + j)) in
+      let u = length-flat k r lens n in
+      let w = length-flat k (λ j. r (n + j)) (λ j. lens (n + j)) m in
+      let s : l′ ≡ put (b + length (flat n r)) v (put b (flat n r) l₀) = e ∙ cc (f .is, ei, u) in
+      let z : l′ ≡ put b (flat n r ++ v) l₀ = s ∙ put-put b (flat n r) v l₀ (omega arith) in
+      record {
+        is = z ∙ ap (λ (x : List A). put b x l₀) (sym (flat-split n m r));
+        long = ap length z ∙ length-put b (flat n r ++ v) l₀ (omega (arith, length-append (flat n r) v));
+      }
 
   -- what lies before the place is as it was
   pub take-put : (n b : ℕ) (vs l : List A) → n ≤ b → b ≤ length l → take n (put b vs l) ≡ take n l
@@ -219,6 +262,19 @@ module _ {A : Type 0} where
       ap (λ (n : ℕ). vs ++ drop n (us ++ drop (0 + length us) l)) e
       ∙ ap (λ (x : List A). vs ++ x) (drop-append-add us (drop (0 + length us) l) m ∙ drop-drop m (0 + length us) l)
       ∙ ap (λ (n : ℕ). vs ++ drop n l) z
+
+  -- and a list covers one as long at its place
+  pub put-again : (b : ℕ) (us vs l : List A) → length us ≡ length vs → b + length vs ≤ length l → put b us (put b vs l) ≡ put b us l
+  unfolding put
+  put-again b us vs l e h =
+      let n = b + length vs in
+      let a : take b l ++ (vs ++ drop n l) ≡ (take b l ++ vs) ++ drop n l = sym (append-assoc (take b l) vs (drop n l)) in
+      let q : drop (b + length us) (take b l ++ (vs ++ drop n l)) ≡ drop (b + length us) l =
+      ap (λ (i : ℕ). drop (b + i) (take b l ++ (vs ++ drop n l))) e
+      ∙ ap (drop n) a
+      ∙ drop-at (take b l ++ vs) (drop n l) n (simp (length-append, length-take) (omega arith))
+      ∙ ap (λ (i : ℕ). drop (b + i) l) (sym e) in
+      ap₂ {C = List A} (λ x y. x ++ (us ++ y)) (take-put b b vs l (omega arith) (omega arith)) q
 
   -- the front that was put is read back whole
   pub take-front : (vs l : List A) (n : ℕ) → length vs ≡ n → take n (put 0 vs l) ≡ vs

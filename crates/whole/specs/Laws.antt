@@ -1,116 +1,38 @@
 -- Laws of section 8's definitions: lengths, where a block's words stand, and how the code's stores add up to them. Assumes nothing.
 use mathlib.Core.Path.{_≡_, refl, sym, _∙_, ap}
-use mathlib.Core.List.{List, [], _++_}
+use mathlib.Core.List.{List, _++_}
 use Prim.Native.Nat.{ℕ, zero, suc, _+_, _*_, _≤_, _<_}
 use native.Mathlib.Nat.{mul-assoc, mul-comm, mul-left-comm, add-mul, suc-mul, add-zero}
 use native.Mathlib.Omega.{arith}
 use lib.ListN.{length, getD, length-append}
-use Rattle.picture.specs.Fill.{flat, put, put-put, put-comm, put-nil, length-put, length-flat, getD-flat, getD-flat-below, within}
+use Rattle.picture.specs.Fill.{flat, put, put-put, put-nil, length-put, length-flat, getD-flat, getD-flat-below, within}
 use Rattle.grid.specs.Grid.{ofMetric, ofWeights, ofJunctions, ofTags}
 use Rattle.metric.specs.Metric.{metrics}
 use Rattle.metric.specs.Weight.{weights}
 use Rattle.block.specs.Block.{pictureJunctions, pictureTags, blockOf}
-use Rattle.block.specs.Store.{third, putBlock, putRow, putRect}
+use Rattle.block.specs.Store.{third, putRow, putRect}
+use Rattle.block.specs.Strips.{strip, strip-length, row-strips}
 use Rattle.whole.specs.Whole.{allOf, rowsOf, scaleOf, singlesOf, bytesOf}
 
--- ---- blocks stored one after the other are the strips of words that their rows are
+-- ---- blocks stored one after the other, where the strips are as long as an output row, are three rows of it
 
-module _ (ow at : ℕ) (blocks : ℕ → List ℕ) (l₀ : List ℕ) (room : at + 3 * ow ≤ length l₀) where
-  -- row r of the first n blocks
-  abbrev strip : ℕ → ℕ → List ℕ
-  strip r n = flat n (λ x. third r (blocks x))
-
-  strip-length : (r n : ℕ) → length (strip r n) ≡ n * 3
-  strip-length r n = length-flat 3 (λ x. third r (blocks x)) (λ x. refl) n
-
-  module _ (n : ℕ) (more : n * 3 + 3 ≤ ow) where
-    y₁ : List ℕ
-    y₁ = put at (strip 0 n) l₀
-
-    y₁-long : length y₁ ≡ length l₀
-    unfolding y₁
-    y₁-long = length-put at (strip 0 n) l₀ (omega (arith, strip-length 0 n))
-
-    -- the next piece of the first strip goes below the other two
-    first : put (at + n * 3) (third 0 (blocks n)) (put (at + 2 * ow) (strip 2 n) (put (at + ow) (strip 1 n) y₁))
-        ≡ put (at + 2 * ow) (strip 2 n) (put (at + ow) (strip 1 n) (put at (strip 0 (suc n)) l₀))
-    unfolding y₁
-    first =
-        let e0 = strip-length 0 n in
-        let e1 = strip-length 1 n in
-        let e2 = strip-length 2 n in
-        let m = y₁-long in
-        let k = length-put (at + ow) (strip 1 n) y₁ (omega arith) in
-        put-comm (at + n * 3) (at + 2 * ow) (third 0 (blocks n)) (strip 2 n) (put (at + ow) (strip 1 n) y₁) (omega arith) (omega arith)
-        ∙ ap (put (at + 2 * ow) (strip 2 n))
-        (put-comm (at + n * 3) (at + ow) (third 0 (blocks n)) (strip 1 n) y₁ (omega arith) (omega arith))
-        ∙ ap (λ (i : ℕ). put (at + 2 * ow) (strip 2 n) (put (at + ow) (strip 1 n) (put (at + i) (third 0 (blocks n)) y₁))) (sym e0)
-        ∙ ap (λ (l : List ℕ). put (at + 2 * ow) (strip 2 n) (put (at + ow) (strip 1 n) l))
-        (put-put at (strip 0 n) (third 0 (blocks n)) l₀ (omega arith))
-
-    y₂ : List ℕ
-    y₂ = put at (strip 0 (suc n)) l₀
-
-    y₂-long : length y₂ ≡ length l₀
-    unfolding y₂
-    y₂-long = length-put at (strip 0 (suc n)) l₀ (omega (arith, strip-length 0 (suc n), suc-mul n 3))
-
-    second : put (at + ow + n * 3) (third 1 (blocks n)) (put (at + 2 * ow) (strip 2 n) (put (at + ow) (strip 1 n) y₂))
-        ≡ put (at + 2 * ow) (strip 2 n) (put (at + ow) (strip 1 (suc n)) y₂)
-    second =
-        let e1 = strip-length 1 n in
-        let e2 = strip-length 2 n in
-        let m = y₂-long in
-        let k = length-put (at + ow) (strip 1 n) y₂ (omega arith) in
-        put-comm (at + ow + n * 3) (at + 2 * ow) (third 1 (blocks n)) (strip 2 n) (put (at + ow) (strip 1 n) y₂) (omega arith) (omega arith)
-        ∙ ap (λ (i : ℕ). put (at + 2 * ow) (strip 2 n) (put (at + ow + i) (third 1 (blocks n)) (put (at + ow) (strip 1 n) y₂))) (sym e1)
-        ∙ ap (put (at + 2 * ow) (strip 2 n)) (put-put (at + ow) (strip 1 n) (third 1 (blocks n)) y₂ (omega arith))
-
-    y₃ : List ℕ
-    y₃ = put (at + ow) (strip 1 (suc n)) y₂
-
-    y₃-long : length y₃ ≡ length l₀
-    unfolding y₃
-    y₃-long = length-put (at + ow) (strip 1 (suc n)) y₂ (omega (arith, strip-length 1 (suc n), suc-mul n 3, y₂-long)) ∙ y₂-long
-
-    third-put : put (at + 2 * ow + n * 3) (third 2 (blocks n)) (put (at + 2 * ow) (strip 2 n) y₃) ≡ put (at + 2 * ow) (strip 2 (suc n)) y₃
-    third-put =
-        let e2 = strip-length 2 n in
-        let m = y₃-long in
-        ap (λ (i : ℕ). put (at + 2 * ow + i) (third 2 (blocks n)) (put (at + 2 * ow) (strip 2 n) y₃)) (sym e2)
-        ∙ put-put (at + 2 * ow) (strip 2 n) (third 2 (blocks n)) y₃ (omega arith)
-
-    -- one more block
-    strips-more : putBlock ow (at + n * 3) (blocks n) (put (at + 2 * ow) (strip 2 n) (put (at + ow) (strip 1 n) y₁))
-        ≡ put (at + 2 * ow) (strip 2 (suc n)) y₃
-    unfolding putBlock y₁ y₂ y₃
-    strips-more =
-        let i1 : at + n * 3 + ow ≡ at + ow + n * 3 = omega arith in
-        let i2 : at + n * 3 + 2 * ow ≡ at + 2 * ow + n * 3 = omega arith in
-        rw (i2, i1, first, second, third-put)
-
-  row-strips : (n : ℕ) → n * 3 ≤ ow
-      → putRow ow at n blocks l₀ ≡ put (at + 2 * ow) (strip 2 n) (put (at + ow) (strip 1 n) (put at (strip 0 n) l₀))
-  unfolding putRow y₁ y₂ y₃
-  row-strips zero few =
-      sym (ap (λ (l : List ℕ). put (at + 2 * ow) [] (put (at + ow) [] l)) (put-nil at l₀ (omega arith))
-      ∙ ap (λ (l : List ℕ). put (at + 2 * ow) [] l) (put-nil (at + ow) l₀ (omega arith)) ∙ put-nil (at + 2 * ow) l₀ (omega arith))
-  row-strips (suc n) few = ap (putBlock ow (at + n * 3) (blocks n)) (row-strips n (omega arith)) ∙ strips-more n (omega arith)
-
-  -- where the strips are as long as an output row, they are three rows of it
-  row-filled : (w : ℕ) → ow ≡ 3 * w → putRow ow at w blocks l₀ ≡ put at (rowsOf w blocks) l₀
-  unfolding rowsOf
-  row-filled w ew =
-      let e0 = strip-length 0 w in
-      let e1 = strip-length 1 w in
-      let e2 = strip-length 2 w in
-      let i1 : at + ow ≡ at + length (strip 0 w) = omega arith in
-      let i2 : at + 2 * ow ≡ at + length (strip 0 w ++ strip 1 w) = omega (arith, length-append (strip 0 w) (strip 1 w)) in
-      row-strips w (omega arith)
-      ∙ ap (λ (i : ℕ). put (at + 2 * ow) (strip 2 w) (put i (strip 1 w) (put at (strip 0 w) l₀))) i1
-      ∙ ap (put (at + 2 * ow) (strip 2 w)) (put-put at (strip 0 w) (strip 1 w) l₀ (omega arith))
-      ∙ ap (λ (i : ℕ). put i (strip 2 w) (put at (strip 0 w ++ strip 1 w) l₀)) i2
-      ∙ put-put at (strip 0 w ++ strip 1 w) (strip 2 w) l₀ (omega (arith, length-append (strip 0 w) (strip 1 w)))
+row-filled : (ow at w : ℕ) (blocks : ℕ → List ℕ) (l : List ℕ) → at + 3 * ow ≤ length l → ow ≡ 3 * w
+    → putRow ow at w blocks l ≡ put at (rowsOf w blocks) l
+unfolding rowsOf
+row-filled ow at w blocks l room ew =
+    let a = strip blocks 0 w in
+    let b = strip blocks 1 w in
+    let c = strip blocks 2 w in
+    let ea = strip-length blocks 0 w in
+    let eb = strip-length blocks 1 w in
+    let ec = strip-length blocks 2 w in
+    let i1 : at + ow ≡ at + length a = omega arith in
+    let i2 : at + 2 * ow ≡ at + length (a ++ b) = omega (arith, length-append a b) in
+    row-strips ow at blocks l w (omega arith) (omega arith)
+    ∙ ap (λ (i : ℕ). put (at + 2 * ow) c (put i b (put at a l))) i1
+    ∙ ap (put (at + 2 * ow) c) (put-put at a b l (omega arith))
+    ∙ ap (λ (i : ℕ). put i c (put at (a ++ b) l)) i2
+    ∙ put-put at (a ++ b) c l (omega (arith, length-append a b))
 
 -- a row of blocks is nine times as long as the picture's row
 rows-length : (w : ℕ) (blocks : ℕ → List ℕ) → length (rowsOf w blocks) ≡ 9 * w
@@ -135,7 +57,7 @@ rect-filled w (suc n) blocks l room =
     let i : at ≡ 0 + length (flat n rows) = omega arith in
     let long = length-put 0 (flat n rows) l (omega (arith, suc-mul n (9 * w))) in
     ap (putRow (3 * w) at w (λ x. blocks x n)) (rect-filled w n blocks l (omega (arith, suc-mul n (9 * w))))
-    ∙ row-filled (3 * w) at (λ x. blocks x n) (put 0 (flat n rows) l) (omega (arith, suc-mul n (9 * w))) w refl
+    ∙ row-filled (3 * w) at w (λ x. blocks x n) (put 0 (flat n rows) l) (omega (arith, suc-mul n (9 * w))) refl
     ∙ ap (λ (a : ℕ). put a (rows n) (put 0 (flat n rows) l)) i
     ∙ put-put 0 (flat n rows) (rows n) l (omega (arith, suc-mul n (9 * w)))
 

@@ -1,59 +1,52 @@
--- `block::store::put_block` meets its contract. Assumes nothing.
-use mathlib.Core.Path.{_∙_, ap}
-use mathlib.Core.List.{List}
-use Prim.Native.Nat.{ℕ}
-use Rattle.block.specs.Store.{putBlock}
+-- `block::store::put_block` meets its contract: the rows are stored from above, and the copies below stand. Assumes nothing.
+use native.Mathlib.Omega.{arith}
+use mathlib.Core.Path.{refl}
+use Prim.Native.Nat.{_+_}
+use Rattle.picture.specs.Picture.{words}
+use Rattle.picture.specs.Fill.{put, length-put}
+use Rattle.block.specs.Block.{tagWord, blockFrom}
+use Rattle.block.specs.Store.{third, putBlock}
+use Rattle.block.proofs.Copies.{middle-stands, bottom-stands}
 use borrow.Author.Needs.{needs}
 use Rattle.block.proofs.store.put_block.Statement.{statement}
 use Rattle.block.proofs.store.put_block.Tie as tie
 
-block-from-requires : tie.Need-block-from-requires
-block-from-requires c κs = search needs
+put-top-requires : tie.Need-put-top-requires
+put-top-requires c κs = search needs
 
-array-read-store3 : tie.Need-array-read-store3
-array-read-store3 c = search needs
+add-put-middle : tie.Need-add-put-middle
+add-put-middle c = search needs
 
-array-read-store3-2 : tie.Need-array-read-store3-2
-array-read-store3-2 c = search needs
+put-middle-requires : tie.Need-put-middle-requires
+put-middle-requires c κs =
+    let s = c .before .before .before .before .before .before .before in
+    let a = s .args in
+    let f = words (a .w) (a .picture .now) in
+    rw (c .before .before .before .put-top .ensures) (
+      omega (arith, length-put (a .at) (third 0 (blockFrom (a .w) (a .h) f (a .x) (a .y) (a .t))) (a .out .now) (omega arith)),
+      middle-stands (a .ow) (a .at) (tagWord (a .w) (a .h) f (a .x) (a .y) 0) (third 0 (blockFrom (a .w) (a .h) f (a .x) (a .y) (a .t)))
+          (a .out .now) refl (s .pre .1 .0) (s .pre .0) (s .pre .1 .1),
+    )
 
-array-read-store3-3 : tie.Need-array-read-store3-3
-array-read-store3-3 c = search needs
+mul-put-bottom : tie.Need-mul-put-bottom
+mul-put-bottom c = search needs
 
-store3-requires : tie.Need-store3-requires
-store3-requires c κs = search needs
+add-put-bottom : tie.Need-add-put-bottom
+add-put-bottom c = search needs
 
-add-store3 : tie.Need-add-store3
-add-store3 c = search needs
-
-array-read-store3-4 : tie.Need-array-read-store3-4
-array-read-store3-4 c = search needs
-
-array-read-store3-5 : tie.Need-array-read-store3-5
-array-read-store3-5 c = search needs
-
-array-read-store3-6 : tie.Need-array-read-store3-6
-array-read-store3-6 c = search needs
-
-store3-requires-2 : tie.Need-store3-requires-2
-store3-requires-2 c κs = search needs
-
-mul-store3 : tie.Need-mul-store3
-mul-store3 c = search needs
-
-add-store3-2 : tie.Need-add-store3-2
-add-store3-2 c = search needs
-
-array-read-store3-7 : tie.Need-array-read-store3-7
-array-read-store3-7 c = search needs
-
-array-read-store3-8 : tie.Need-array-read-store3-8
-array-read-store3-8 c = search needs
-
-array-read-store3-9 : tie.Need-array-read-store3-9
-array-read-store3-9 c = search needs
-
-store3-requires-3 : tie.Need-store3-requires-3
-store3-requires-3 c κs = search needs
+put-bottom-requires : tie.Need-put-bottom-requires
+put-bottom-requires c κs =
+    let s = c .before .before .before .before .before .before .before .before .before .before .before in
+    let a = s .args in
+    let f = words (a .w) (a .picture .now) in
+    let b = blockFrom (a .w) (a .h) f (a .x) (a .y) (a .t) in
+    let l = put (a .at) (third 0 b) (a .out .now) in
+    let n = length-put (a .at) (third 0 b) (a .out .now) (omega arith) in
+    rw (c .before .before .before .put-middle .ensures, c .before .before .before .before .before .before .before .put-top .ensures) (
+      omega (arith, n, length-put (a .at + a .ow) (third 1 b) l (omega (arith, n))),
+      bottom-stands (a .ow) (a .at) (tagWord (a .w) (a .h) f (a .x) (a .y) 0) (third 0 b) (third 1 b) (a .out .now) refl refl (s .pre .1 .0)
+          (s .pre .0) (s .pre .1 .1),
+    )
 
 same-length : tie.Need-same-length
 same-length c = search needs
@@ -61,33 +54,20 @@ same-length c = search needs
 returns : tie.Need-returns
 unfolding putBlock
 returns c =
-    let third = c .before .before in
-    let second = third .before .before .before .before in
+    let last = c .before .before in
+    let second = last .before .before .before .before in
     let first = second .before .before .before .before in
-    let start = first .before .before in
-    let a = start .before .before .before .args in
-    rw (second .store32 .ensures, first .store3 .ensures) at (third .store33 .ensures)
-    ∙ ap (λ (b : List ℕ). putBlock (a .ow) (a .at) b (a .out .now)) (start .block-from .ensures)
+    rw (second .put-middle .ensures, first .put-top .ensures) at (last .put-bottom .ensures)
 
 pub put-block-spec : {M : Type 1} → statement M
 put-block-spec =
     tie.close
     (tie.spec
-    block-from-requires
-    array-read-store3
-    array-read-store3-2
-    array-read-store3-3
-    store3-requires
-    add-store3
-    array-read-store3-4
-    array-read-store3-5
-    array-read-store3-6
-    store3-requires-2
-    mul-store3
-    add-store3-2
-    array-read-store3-7
-    array-read-store3-8
-    array-read-store3-9
-    store3-requires-3
+    put-top-requires
+    add-put-middle
+    put-middle-requires
+    mul-put-bottom
+    add-put-bottom
+    put-bottom-requires
     same-length
     returns)

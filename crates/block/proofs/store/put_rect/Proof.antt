@@ -51,7 +51,10 @@ put-row-requires c κs =
     let a = c .before .before .before .before .before .before .args in
     record {
       along = omega arith;
+      down = omega arith;
+      picture = omega arith;
       tags = omega (arith, room (c .before) (a .k * 4));
+      apart = omega arith;
       words = omega (arith, room (c .before) (3 * a .ow));
     }
 

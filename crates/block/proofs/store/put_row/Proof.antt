@@ -1,95 +1,83 @@
--- `block::store::put_row` meets its contract: the invariant says that the first i blocks stand side by side. Assumes nothing.
+-- `block::store::put_row` meets its contract: the blocks cover the copies. Assumes nothing.
 use native.Mathlib.Omega.{arith}
+use native.Mathlib.Nat.{mul-comm}
 use mathlib.Core.Path.{_≡_, _∙_, ap}
 use mathlib.Core.List.{List}
-use Prim.Native.Nat.{ℕ, _+_, _*_, _-_, _≤_}
+use Prim.Native.Nat.{ℕ, _+_, _*_, _≤_}
+use lib.ListN.{length, getD}
 use Rattle.picture.specs.Picture.{words}
+use Rattle.picture.specs.Fill.{chunk}
 use Rattle.grid.specs.Grid.{tagsAt}
 use Rattle.block.specs.Block.{blockFrom}
-use Rattle.block.specs.StoreLaws.{Rowed, rowed-none, rowed-more, rowed-done}
+use Rattle.block.specs.Store.{putRow, thrice, thriceBelow}
+use Rattle.block.specs.Strips.{covered}
+use Rattle.block.proofs.Copies.{thrice-length, copied, below-long, row-words}
 use borrow.Author.Needs.{needs}
 use Rattle.block.proofs.store.put_row.Statement.{statement}
 use Rattle.block.proofs.store.put_row.Tie as tie
 
--- block i of the row
-abbrev blocks : ℕ → ℕ → List ℕ → ℕ → ℕ → List ℕ → ℕ → ℕ → List ℕ
-blocks w h picture x y tags from i = blockFrom w h (words w picture) (x + i) y (tagsAt tags (from + i * 4))
+inside : (c : tie.Start) → c .args .y * c .args .w + c .args .x + c .args .k ≤ length (c .args .picture .now)
+inside c =
+    omega (arith, c .pre .along, c .pre .picture, chunk (c .args .y) (c .args .h) (c .args .w) (c .pre .down), mul-comm (c .args .w) (c .args .h))
 
-abbrev Inv-loop : tie.InvT-loop
-Inv-loop picture w h x y k tags from out₀ ow at i₀ t₀ o₀ out i t o =
-    (i ≤ k) × (t ≡ from + i * 4) × (o ≡ at + i * 3) × Rowed ow at i (blocks w h picture x y tags from) out₀ out
+mul-i : tie.Need-mul-i
+mul-i c = omega (arith, inside (c .before .before .before))
 
-abbrev μ-loop : tie.MeasureT-loop
-μ-loop picture w h x y k tags from out₀ ow at i₀ t₀ o₀ out i t o = k - i
+add-i : tie.Need-add-i
+add-i c = omega (arith, inside (c .before .before .before))
 
-loop-holds : tie.Need-loop-holds Inv-loop μ-loop
-loop-holds c =
-    let a = c .before .before .before .args in (
-      omega arith,
-      omega arith,
-      omega arith,
-      rowed-none (a .ow) (a .at) (blocks (a .w) (a .h) (a .picture .now) (a .x) (a .y) (a .tags .now) (a .from)) (a .out .now),
+copy-rows-requires : tie.Need-copy-rows-requires
+copy-rows-requires c κs = let start = c .before .before .before .before in (inside start, start .pre .words)
+
+-- the row's words, three times over
+abbrev row : tie.Start → List ℕ
+row c = thrice (c .args .k) (λ j. words (c .args .w) (c .args .picture .now) (c .args .x + j) (c .args .y))
+
+abbrev copies : tie.Start → List ℕ
+copies c = thriceBelow (c .args .ow) (c .args .at) (row c) (c .args .out .now)
+
+long : (c : tie.Start) → length (row c) ≡ c .args .k * 3
+long c = thrice-length (c .args .k) (λ j. words (c .args .w) (c .args .picture .now) (c .args .x + j) (c .args .y))
+
+-- what is copied from the first place of the row on is that
+same : (c : tie.Start) → thriceBelow (c .args .ow) (c .args .at)
+    (thrice (c .args .k) (λ j. getD (c .args .picture .now) (c .args .y * c .args .w + c .args .x + j) 0)) (c .args .out .now) ≡ copies c
+same c =
+    let a = c .args in
+    ap (λ (s : List ℕ). thriceBelow (a .ow) (a .at) s (a .out .now)) (row-words (a .picture .now) (a .w) (a .x) (a .y) (a .k))
+
+put-tagged-requires : tie.Need-put-tagged-requires
+put-tagged-requires c κs =
+    let start = c .before .before .before .before .before .before .before .before in
+    let a = start .args in
+    let r = start .pre in
+    let n = long start in
+    rw (c .before .before .before .copy-rows .ensures ∙ same start) (
+      record {
+        along = r .along;
+        down = r .down;
+        picture = r .picture;
+        tags = r .tags;
+        apart = r .apart;
+        words = omega (arith, r .words, below-long (a .ow) (a .at) (row start) (a .out .now) (omega (arith, n, r .words)));
+      },
+      copied (a .ow) (a .at) (a .k) (λ j. words (a .w) (a .picture .now) (a .x + j) (a .y)) (a .out .now) (r .apart) (r .words),
     )
 
-add-put-block : tie.Need-add-put-block Inv-loop μ-loop
-add-put-block c = search needs
+same-length : tie.Need-same-length
+same-length c = search needs
 
-load-tags-requires : tie.Need-load-tags-requires Inv-loop μ-loop
-load-tags-requires c κs = search needs
-
-put-block-requires : tie.Need-put-block-requires Inv-loop μ-loop
-put-block-requires c κs = search needs
-
-add-t : tie.Need-add-t Inv-loop μ-loop
-add-t c = search needs
-
-add-o : tie.Need-add-o Inv-loop μ-loop
-add-o c = search needs
-
-add-i : tie.Need-add-i Inv-loop μ-loop
-add-i c = search needs
-
-loop-less : tie.Need-loop-less Inv-loop μ-loop
-loop-less c = search needs
-
-loop-again : tie.Need-loop-again Inv-loop μ-loop
-loop-again c =
-    let s = c .before .before .before .before .before .before .loop in
-    let a = c .before .before .before .before .before .before .before .before .before .before .args in
-    let e = ap (blockFrom (a .w) (a .h) (words (a .w) (a .picture .now)) (a .x + s .i) (a .y))
-    (c .before .before .before .before .load-tags .ensures ∙ ap (tagsAt (a .tags .now)) (s .inv .1)) in (
-      omega arith,
-      omega arith,
-      omega arith,
-      rowed-more (a .ow) (a .at) (s .i) (blocks (a .w) (a .h) (a .picture .now) (a .x) (a .y) (a .tags .now) (a .from)) (a .out .now)
-          (s .out) (c .before .before .put-block .last .1 .1 .1 .1 .1 .1 .0) _ (s .o) (omega arith) (s .inv .3) (s .inv .2) e
-          (c .before .before .put-block .ensures),
-    )
-
-same-length : tie.Need-same-length Inv-loop μ-loop
-same-length c = c .before .loop .inv .3 .long
-
-returns : tie.Need-returns Inv-loop μ-loop
+returns : tie.Need-returns
 returns c =
-    let a = c .before .before .before .before .before .args in
-    let s = c .before .loop in
-    rowed-done (a .ow) (a .at) (s .i) (a .k) (blocks (a .w) (a .h) (a .picture .now) (a .x) (a .y) (a .tags .now) (a .from))
-    (a .out .now) (s .out) (s .inv .3) (omega arith)
+    let start = c .before .before .before .before .before .before .before .before .before .before .before in
+    let a = start .args in
+    let r = start .pre in
+    let blocks : ℕ → List ℕ =
+    λ i. blockFrom (a .w) (a .h) (words (a .w) (a .picture .now)) (a .x + i) (a .y) (tagsAt (a .tags .now) (a .from + i * 4)) in
+    c .before .before .put-tagged .ensures
+    ∙ ap (putRow (a .ow) (a .at) (a .k) blocks) (c .before .before .before .before .before .before .copy-rows .ensures ∙ same start)
+    ∙ covered (a .ow) (a .at) (a .k) blocks (row start) (a .out .now) (long start) (r .apart) (r .words)
 
 pub put-row-spec : {M : Type 1} → statement M
 put-row-spec =
-    tie.close
-    (tie.spec
-    Inv-loop
-    μ-loop
-    loop-holds
-    add-put-block
-    load-tags-requires
-    put-block-requires
-    add-t
-    add-o
-    add-i
-    loop-less
-    loop-again
-    same-length
-    returns)
+    tie.close (tie.spec mul-i add-i copy-rows-requires put-tagged-requires same-length returns)

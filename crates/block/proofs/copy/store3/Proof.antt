@@ -1,9 +1,9 @@
--- `block::store::store3` meets its contract: the three stores are one put. Assumes nothing.
+-- `block::copy::store3` meets its contract: the three stores are one put. Assumes nothing.
 use mathlib.Core.Path.{_∙_}
 use Rattle.picture.specs.Fill.{stored3}
 use borrow.Author.Needs.{needs}
-use Rattle.block.proofs.store.store3.Statement.{statement}
-use Rattle.block.proofs.store.store3.Tie as tie
+use Rattle.block.proofs.copy.store3.Statement.{statement}
+use Rattle.block.proofs.copy.store3.Tie as tie
 
 store1-requires : tie.Need-store1-requires
 store1-requires c κs = search needs
@@ -30,7 +30,7 @@ returns c =
     let first = second .before .before .before .before in
     let start = first .before .before .before in
     rw (second .store12 .ensures, first .store1 .ensures) at (third .store13 .ensures)
-    ∙ stored3 (start .args .s .now) (start .args .i) (start .args .a) (start .args .b) (start .args .c) (start .pre)
+    ∙ stored3 (start .args .s .now) (start .args .i) (start .args .a) (start .args .a) (start .args .a) (start .pre)
 
 pub store3-spec : {M : Type 1} → statement M
 store3-spec =
