@@ -46,8 +46,15 @@ tags-from w h x y k from i n p tags l t = record {
       ap (tagsAt tags) e ∙ t .each (i + j) (omega arith) ∙ ap (λ (c : ℕ). pictureTags w h (words w p) c y) q;
 }
 
-pub run-room : (w h x y n from t o : ℕ) → x + n ≤ w → y < h → from + n * 4 ≤ t → 9 * (w * h) ≤ o
-    → RowRoom w x n from t (3 * w) (place screen3 w x y 0) o
-run-room w h x y n from t o along down tags long =
+pub run-room : (w h x y n from p t o : ℕ) → x + n ≤ w → y < h → w * h ≤ p → from + n * 4 ≤ t → 9 * (w * h) ≤ o
+    → RowRoom w h x y n from p t (3 * w) (place screen3 w x y 0) o
+run-room w h x y n from p t o along down picture tags long =
     let a : (y + 1) * (9 * w) ≤ h * (9 * w) = mul-le-mul-right (9 * w) (omega arith) in
-    record { along = along; tags = tags; words = omega (arith, a, along, long) }
+    record {
+      along = along;
+      down = down;
+      picture = picture;
+      tags = tags;
+      apart = omega (arith, along);
+      words = omega (arith, a, along, long);
+    }

@@ -26,7 +26,8 @@ put-row-requires c κs =
     let a = s .args in
     let t = s .pre .0 .1 in
     rw (c .before .corner .ensures)
-    (run-room (a .w) (a .h) (a .x) (a .y) (a .n) (a .from) (length (a .tags .now)) (length (a .output .now)) (t .along) (t .down) (t .long) (s .pre .1 .for-output))
+    (run-room (a .w) (a .h) (a .x) (a .y) (a .n) (a .from) (length (a .picture .now)) (length (a .tags .now)) (length (a .output .now)) (t .along)
+    (t .down) (s .pre .1 .for-picture) (t .long) (s .pre .1 .for-output))
 
 mul-clear-run : tie.Need-mul-clear-run
 mul-clear-run c = search needs
