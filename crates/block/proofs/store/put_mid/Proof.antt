@@ -1,4 +1,5 @@
 -- `block::store::put_mid` meets its contract: the test of the code is that of the definition. Assumes nothing.
+use native.Mathlib.Omega.{arith}
 use borrow.Author.Tests.{le-ltb, lt-ltb}
 use borrow.Author.Needs.{needs}
 use Rattle.block.proofs.store.put_mid.Statement.{statement}
@@ -17,10 +18,10 @@ same-length : tie.Need-same-length
 same-length c = search needs
 
 returns : tie.Need-returns
-returns c = simp (c .tag-word .ensures, le-ltb _ 9 (c .before .if1 .taken))
+returns c = simp (c .tag-word .ensures, le-ltb (c .before .before .before .before .args .t) 9 (omega (arith, c .before .if1 .taken)))
 
 returns-2 : tie.Need-returns-2
-returns-2 c = simp (lt-ltb _ 9 (c .if1 .left))
+returns-2 c = simp (lt-ltb (c .before .before .before .args .t) 9 (omega (arith, c .if1 .left)))
 
 pub put-mid-spec : {M : Type 1} → statement M
 put-mid-spec =

@@ -118,7 +118,7 @@ loop-again c =
       | inr u ↦
           u .1
           ∙ plain-drawn (a .w) (a .h) f (a .x + s .i) (a .y) (a .ow) (s .o) (tags .result) (s .out)
-          (omega (arith, r .words, s .inv .2, s .inv .3 .long)) (omega (arith, r .apart)) plain (u .0 .left)
+          (omega (arith, r .words, s .inv .2, s .inv .3 .long)) (omega (arith, r .apart)) plain (omega (arith, u .0 .left))
     ] in (
       omega arith,
       omega arith,
