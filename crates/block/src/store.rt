@@ -1,6 +1,6 @@
 // Blocks stored in an output of longer rows: of one pixel, of a row of pixels, and of a rectangle of them. Whole pictures and runs of
-// stale blocks are written here, each word where it belongs: a row's words are copied, and then those that a tag names another for are
-// stored again.
+// stale blocks are written here, each word where it belongs: a row's pixels are copied first, and then the word that a tag names is
+// stored over its copy.
 use crate::copy::copy_rows;
 use crate::tag_word;
 use grid::load_tags;
@@ -15,7 +15,7 @@ ghost use Rattle.grid.specs.Grid.{tagsAt};
 ghost use Rattle.block.specs.Block.{corner, mid, tagWord, blockFrom};
 ghost use Rattle.block.specs.Store.{third, putBlock, putRow, putRect, Copies, Plain, Copied, storedUnless, RowRoom, RectRoom};
 
-// The word that the corner tag of t names, where t is not 0.
+// The word that the corner tag of t names, stored over the pixel's copy; where t is 0 the copy is that word.
 fn put_corner(picture: &[u32], w: u32, h: u32, x: u32, y: u32, t: u8, out: &mut [u32], at: usize)
     requires { ⌜ at < length (now out) ⌝ }
     ensures { λ _. ⌜ now (out .exit)
@@ -26,7 +26,7 @@ fn put_corner(picture: &[u32], w: u32, h: u32, x: u32, y: u32, t: u8, out: &mut 
     }
 }
 
-// The word that the mid-edge tag of t names, where that is not 0.
+// The word that the mid-edge tag of t names, likewise; below 9 that tag is 0.
 fn put_mid(picture: &[u32], w: u32, h: u32, x: u32, y: u32, t: u8, out: &mut [u32], at: usize)
     requires { ⌜ at < length (now out) ⌝ }
     ensures { λ _. ⌜ now (out .exit)
@@ -87,7 +87,7 @@ fn put_block(
 }
 
 // The k blocks from (x, y) on by their tags, which start at byte `from`, side by side from `at` on, where nine copies of each pixel stand.
-// By its four bytes taken as one number a pixel without tags is passed over at one test.
+// A pixel's four bytes are tested as one number, which the compiler loads at once; where it is 0, the copies are the block.
 fn put_tagged(
     picture: &[u32],
     w: u32,
