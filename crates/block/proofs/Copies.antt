@@ -4,7 +4,6 @@ use mathlib.Core.Path.{_≡_, refl, sym, _∙_, ap}
 use mathlib.Core.Bool.{Bool, true, false}
 use mathlib.Core.List.{List, [], _∷_}
 use Prim.Native.Nat.{ℕ, zero, suc, _+_, _*_, _/_, _%_, _≤_, _<_}
-use native.Mathlib.Nat.{suc-mul}
 use native.Mathlib.Omega.{arith}
 use lib.Dec.{eqb, ltb}
 use lib.IntN.{pos}
@@ -26,8 +25,8 @@ use Rattle.block.specs.StoreLaws.{Rowed, row-long}
 abbrev pub copies : List ℕ → ℕ → ℕ → List ℕ
 copies picture i j = getD picture (i + j) 0 ∷ getD picture (i + j) 0 ∷ getD picture (i + j) 0 ∷ []
 
--- m words of it, from the word j on
-copies-from : (picture : List ℕ) (i j m : ℕ) → thrice m (λ n. getD picture (i + j + n) 0) ≡ flat m (λ n. copies picture i (j + n))
+-- m words of it, from the word j on; so, with y * w for i, the words of row y from a column on
+pub copies-from : (picture : List ℕ) (i j m : ℕ) → thrice m (λ n. getD picture (i + j + n) 0) ≡ flat m (λ n. copies picture i (j + n))
 copies-from picture i j m =
     flat-same m (copies picture (i + j)) (λ n. copies picture i (j + n))
     (λ n h. let e : i + j + n ≡ i + (j + n) = omega arith in ap (λ (q : ℕ). getD picture q 0 ∷ getD picture q 0 ∷ getD picture q 0 ∷ []) e)
@@ -217,12 +216,6 @@ module _ (w h : ℕ) (f : ℕ → ℕ → ℕ) (x y : ℕ) where
 pixel-is : (w h : ℕ) (f : ℕ → ℕ → ℕ) (x y : ℕ) → x < w → y < h → f x y ≡ tagWord w h f x y 0
 unfolding tagWord
 pixel-is w h f x y hx hy = near-at f w h x y (pos 0) (pos 0) (stay w x hx) (stay h y hy) refl
-
--- the words from element y * w + x on are those of row y, from column x on
-pub row-words : (p : List ℕ) (w x y k : ℕ) → thrice k (λ j. getD p (y * w + x + j) 0) ≡ thrice k (λ j. words w p (x + j) y)
-row-words p w x y k =
-    flat-same k (copies p (y * w + x)) (λ j. copies p (y * w) (x + j))
-    (λ j h. let e : y * w + x + j ≡ y * w + (x + j) = omega arith in ap (λ (q : ℕ). getD p q 0 ∷ getD p q 0 ∷ getD p q 0 ∷ []) e)
 
 -- while the blocks before it are stored, block i is nine copies of its pixel
 pub stands : (w h x y k ow at i : ℕ) (p l₀ l : List ℕ) (blocks : ℕ → List ℕ) → x + k ≤ w → y < h → k * 3 ≤ ow

@@ -11,7 +11,7 @@ use Rattle.grid.specs.Grid.{tagsAt}
 use Rattle.block.specs.Block.{blockFrom}
 use Rattle.block.specs.Store.{putRow, thrice, thriceBelow}
 use Rattle.block.specs.Strips.{covered}
-use Rattle.block.proofs.Copies.{thrice-length, copied, below-long, row-words}
+use Rattle.block.proofs.Copies.{thrice-length, copied, below-long, copies-from}
 use borrow.Author.Needs.{needs}
 use Rattle.block.proofs.store.put_row.Statement.{statement}
 use Rattle.block.proofs.store.put_row.Tie as tie
@@ -44,7 +44,7 @@ same : (c : tie.Start) → thriceBelow (c .args .ow) (c .args .at)
     (thrice (c .args .k) (λ j. getD (c .args .picture .now) (c .args .y * c .args .w + c .args .x + j) 0)) (c .args .out .now) ≡ copies c
 same c =
     let a = c .args in
-    ap (λ (s : List ℕ). thriceBelow (a .ow) (a .at) s (a .out .now)) (row-words (a .picture .now) (a .w) (a .x) (a .y) (a .k))
+    ap (λ (s : List ℕ). thriceBelow (a .ow) (a .at) s (a .out .now)) (copies-from (a .picture .now) (a .y * a .w) (a .x) (a .k))
 
 put-tagged-requires : tie.Need-put-tagged-requires
 put-tagged-requires c κs =
