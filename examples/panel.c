@@ -1,5 +1,6 @@
 /*
- * A small session, a legend that is locked, a whole picture three and nine times, and a page file, through the C face.
+ * A small session, a legend that is locked, a bar graph, a whole picture three and nine times, and a page file, through
+ * the C face.
  * Every answer is held to what it must be; the first that is not ends the program with status 1 and a line that says
  * where.
  * Build in the repository: gcc -std=c99 -Iinclude examples/panel.c target/staticlib/libpanel.a -lm -o panel
@@ -270,6 +271,105 @@ static void unlock(void)
     printf("paint there, nothing locked: changed %" PRIu32 "\n", changed);
 }
 
+/* A load meter: four bars of ten pixels, which one list paints. Under them stands a scale, which is locked. */
+enum { BARS = 4, LEVELS = 10, METER_W = 20, METER_H = 12, METER = PANEL_PICTURE_LEN(METER_W, METER_H) };
+
+static const uint32_t BLACK = 0x00000000u;
+
+struct meter {
+    uint32_t header[PANEL_HEADER_LEN], picture[METER];
+    uint8_t marks[METER];
+};
+
+static uint32_t meter_output[PANEL_OUTPUT_LEN(METER_W, METER_H)];
+
+static void open_meter(struct meter *meter)
+{
+    uint32_t opened[PANEL_HEADER_LEN], stale, drawn, left;
+
+    for (size_t i = 0; i < METER; i++)
+        meter->picture[i] = i / METER_W == METER_H - 1 ? RED : WHITE;
+    EXPECT(panel_open(METER_W, METER_H, meter->picture, METER, meter_output, PANEL_OUTPUT_LEN(METER_W, METER_H),
+                      meter->marks, METER, opened, &stale) == PANEL_NONE);
+    EXPECT(panel_lock(opened, 0, METER_H - 1, METER_W, 1, meter->header) == PANEL_NONE);
+    EXPECT(panel_refresh(meter->header, meter->picture, METER, meter_output, PANEL_OUTPUT_LEN(METER_W, METER_H),
+                         meter->marks, METER, UINT32_MAX, &drawn, &left) == PANEL_NONE && left == 0);
+}
+
+/* The pixels of the bars, black up to each bar's level and white above. */
+static void bars(const uint32_t levels[BARS], struct panel_item items[BARS * LEVELS])
+{
+    for (uint32_t i = 0; i < BARS * LEVELS; i++) {
+        uint32_t bar = i / LEVELS, level = i % LEVELS;
+
+        items[i].column = 2 + 3 * bar;
+        items[i].row = METER_H - 2 - level;
+        items[i].word = level < levels[bar] ? BLACK : WHITE;
+    }
+}
+
+static uint32_t paint_bars(struct meter *meter, const struct panel_item *items, size_t items_len, uint32_t *stale)
+{
+    return panel_paint_list(meter->header, meter->picture, METER, meter->marks, METER, items, items_len, stale);
+}
+
+static void print_meter(const struct meter *meter)
+{
+    for (size_t y = 0; y < METER_H; y++) {
+        for (size_t x = 0; x < METER_W; x++) {
+            uint32_t word = meter->picture[y * METER_W + x];
+
+            putchar(word == BLACK ? '#' : word == RED ? '=' : '.');
+        }
+        putchar('\n');
+    }
+}
+
+/* The list leaves what its items leave one by one, on a meter of their own. */
+static void bar_graph(struct meter *meter)
+{
+    static const uint32_t levels[BARS] = {3, 10, 0, 7};
+    struct panel_item items[BARS * LEVELS];
+    struct meter single;
+    uint32_t refusal, stale, changed, counted = 0;
+
+    open_meter(&single);
+    open_meter(meter);
+    bars(levels, items);
+    for (size_t i = 0; i < BARS * LEVELS; i++)
+        EXPECT(panel_paint(single.header, single.picture, METER, single.marks, METER, items[i].column, items[i].row,
+                           items[i].word, &changed, &counted) == PANEL_NONE);
+    refusal = paint_bars(meter, items, BARS * LEVELS, &stale);
+    EXPECT(refusal == PANEL_NONE && stale == counted);
+    EXPECT(memcmp(&single, meter, sizeof single) == 0);
+    printf("bar graph: %d paints in one call, refusal %" PRIu32 ", %" PRIu32 " stale\n", BARS * LEVELS, refusal, stale);
+    print_meter(meter);
+}
+
+/* A list that is refused leaves everything as it was; one of no items too. */
+static void bar_graph_refused(struct meter *meter)
+{
+    static const uint32_t levels[BARS] = {10, 10, 10, 10};
+    struct panel_item items[PANEL_LIST_LEN + 1] = {{0, 0, 0}};
+    struct meter before = *meter;
+    uint32_t stale, drawn;
+
+    bars(levels, items);
+    items[BARS * LEVELS] = (struct panel_item){2, METER_H - 1, BLACK};
+    EXPECT(paint_bars(meter, items, BARS * LEVELS + 1, &stale) == PANEL_LOCKED && stale == 0);
+    items[BARS * LEVELS - 1].column = METER_W;
+    EXPECT(paint_bars(meter, items, BARS * LEVELS + 1, &stale) == PANEL_OUTSIDE && stale == 0);
+    items[0].column = METER_W;
+    EXPECT(paint_bars(meter, items, PANEL_LIST_LEN + 1, &stale) == PANEL_ITEMS && stale == 0);
+    EXPECT(paint_bars(meter, items, 0, &stale) == PANEL_NONE && stale != 0);
+    EXPECT(memcmp(&before, meter, sizeof before) == 0);
+    printf("bar graph on the scale, past the page, of %d paints: refused %u, %u, %u\n", (int)PANEL_LIST_LEN + 1,
+           PANEL_LOCKED, PANEL_OUTSIDE, PANEL_ITEMS);
+    EXPECT(panel_refresh(meter->header, meter->picture, METER, meter_output, PANEL_OUTPUT_LEN(METER_W, METER_H),
+                         meter->marks, METER, UINT32_MAX, &drawn, &stale) == PANEL_NONE && stale == 0);
+    printf("bar graph: %" PRIu32 " blocks drawn\n", drawn);
+}
+
 static uint32_t scale_with(size_t bytes_len)
 {
     return panel_scale(W, H, picture, PANEL_PICTURE_LEN(W, H), output, PANEL_OUTPUT_LEN(W, H), singles,
@@ -361,6 +461,8 @@ static void numbers(void)
 
 int main(void)
 {
+    struct meter meter;
+
     environment();
     version();
     draw_picture();
@@ -371,6 +473,8 @@ int main(void)
     paint_legend();
     plug_in();
     unlock();
+    bar_graph(&meter);
+    bar_graph_refused(&meter);
     whole();
     nine();
     page();

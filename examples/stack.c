@@ -70,6 +70,17 @@ static void call_paint(void)
                         &stale) == PANEL_NONE && changed == 1, "paint changed nothing");
 }
 
+static void call_paint_list(void)
+{
+    struct panel_item items[PANEL_LIST_LEN];
+    uint32_t stale;
+
+    for (uint32_t i = 0; i < PANEL_LIST_LEN; i++)
+        items[i] = (struct panel_item){i, 3, ~picture[3 * W + i]};
+    require(panel_paint_list(header, picture, PANEL_PICTURE_LEN(W, H), marks, PANEL_MARKS_LEN(W, H), items,
+                             PANEL_LIST_LEN, &stale) == PANEL_NONE && stale != 0, "the list of paints changed nothing");
+}
+
 static void call_show(void)
 {
     uint32_t words[PANEL_BLOCK_WORDS];
@@ -135,7 +146,8 @@ static const struct {
     {"refresh of some rows", call_refresh_some},
     {"refresh of everything", call_refresh_all},
     {"paint", call_paint},
-    {"refresh of one change", call_refresh_all},
+    {"paint_list", call_paint_list},
+    {"refresh of the changes", call_refresh_all},
     {"show", call_show},
     {"lock", call_lock},
     {"scale", call_scale},

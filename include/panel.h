@@ -27,12 +27,13 @@
  *   8  the file is under 12 bytes, its last four bytes are wrong, or its back is wrong: not 12 + 4wh, or not its length
  *  10  a rectangle of width and height above 0 reaches past the picture, given to panel_lock or standing in a header
  *  11  a paint of another word inside the lock
+ *  12  a list of more than 64 paints
  *
- * Where several hold, the first in the order 1, 10, 2, 3, 4, 5, 7, 11 is returned (panel_read_page: 8, 1, 2).
+ * Where several hold, the first in the order 1, 10, 2, 3, 4, 12, 5, 7, 11 is returned (panel_read_page: 8, 1, 2).
  *
  * Machine. The library is for x86-64 with SSE2, called by the System V ABI, size_t having 64 bits. Its code is
- * position independent. The only symbol that it needs from outside is memset. The toolchain makes no code for ARM
- * today.
+ * position independent. The only symbols that it needs from outside are memcpy and memset. The toolchain makes no code
+ * for ARM today.
  *
  * Floating point. The library computes in IEEE 754 single precision with SSE2. It takes for granted that MXCSR is set
  * as at a program's start: rounding to nearest, all exceptions masked, denormals not flushed (FTZ and DAZ off). With
@@ -42,10 +43,11 @@
  *
  * Costs of a session. An opening writes the whole output, with 0, and all marks. A paint counts all marks once (wh
  * bytes are read), also where the word is equal; a changed pixel makes at most 120 blocks stale, a cross round it. A
- * refresh reads all marks once too, those near stale blocks a few times; in slices of n, so does each slice. Blocks are
- * drawn in tiles of up to 16 by 12, each the rectangle round stale blocks, of which the stale ones are written; a
- * tile's blocks share work, so a slice that ends within a row of stale blocks costs more for each block than one that
- * takes whole rows. Measured at 256 by 256 (docs/PERFORMANCE.md of the repository), on a page of text and on noise: the
+ * list of paints counts them once, however many items it has: several pixels are best painted by one list. A refresh
+ * reads all marks once too, those near stale blocks a few times; in slices of n, so does each slice. Blocks are drawn in
+ * tiles of up to 16 by 12, each the rectangle round stale blocks, of which the stale ones are written; a tile's blocks
+ * share work, so a slice that ends within a row of stale blocks costs more for each block than one that takes whole
+ * rows. Measured at 256 by 256 (docs/PERFORMANCE.md of the repository), on a page of text and on noise: the
  * first refresh of everything took a little more than twice as long as panel_scale; one changed pixel, its paint and
  * its refresh, took less than a hundredth of panel_scale. So, where most of a page changes, do not paint every pixel:
  * store the words in the picture and open anew, which takes one opening and one refresh of everything.
@@ -61,12 +63,12 @@ extern "C" {
 #endif
 
 /* The version of this header: major * 10000 + minor * 100 + patch, and the three with points between. */
-#define PANEL_VERSION 400u
-#define PANEL_VERSION_STRING "0.4.0"
+#define PANEL_VERSION 500u
+#define PANEL_VERSION_STRING "0.5.0"
 
 /*
- * No call takes more bytes of stack than this. It is measured, not proved: examples/stack.c, with what memset of the C
- * library takes counted, and without what a dynamic linker takes that looks memset up at its first call.
+ * No call takes more bytes of stack than this. It is measured, not proved: examples/stack.c, with what memcpy and memset
+ * of the C library take counted, and without what a dynamic linker takes that looks them up at their first call.
  */
 #define PANEL_STACK_BYTES 24576u
 
@@ -81,6 +83,7 @@ extern "C" {
 #define PANEL_TRAILER 8u   /* the file is no page */
 #define PANEL_LOCK 10u     /* a locked rectangle reaches past the picture */
 #define PANEL_LOCKED 11u   /* the position is locked, and the word is another */
+#define PANEL_ITEMS 12u    /* the list has more than 64 paints */
 
 #define PANEL_SIDE_3X 2048u /* the largest side of panel_scale, of a session and of a page */
 #define PANEL_SIDE_9X 682u  /* the largest side of panel_scale9x */
@@ -106,6 +109,7 @@ extern "C" {
 #define PANEL_HEADER_WIDTH 4  /* the place of the lock's columns in it */
 #define PANEL_HEADER_HEIGHT 5 /* the place of the lock's rows in it */
 #define PANEL_BLOCK_WORDS 9u  /* the words of a block */
+#define PANEL_LIST_LEN 64u    /* the most items of a list of paints */
 
 /*
  * The version of the library, to be held to PANEL_VERSION: a program that was compiled with another header's numbers
@@ -221,6 +225,33 @@ uint32_t panel_paint(const uint32_t header[PANEL_HEADER_LEN],
                      uint8_t *marks, size_t marks_len,
                      uint32_t column, uint32_t row, uint32_t word,
                      uint32_t *changed, uint32_t *stale);
+
+/*
+ * One paint of a list: three numbers of 32 bits, with nothing between or behind them; where a compiler would lay them
+ * out otherwise, the line below it does not compile.
+ */
+struct panel_item {
+    uint32_t column;
+    uint32_t row;
+    uint32_t word;
+};
+typedef char panel_item_has_12_bytes[sizeof(struct panel_item) == 12 ? 1 : -1];
+
+/*
+ * Paints several pixels, all or none: what panel_paint would do for each item, in the order of the list, or, where it
+ * would refuse one of them at its turn, nothing at all. Items may name one position several times.
+ *   picture  the words of the items are written, as by panel_paint
+ *   marks    1 is written at the blocks that the changed words can alter, as by panel_paint
+ *   items    items_len items, read; items_len counts items, not numbers, and may be 0
+ *   *stale   the number of stale blocks after the call; 0 beside a refusal
+ * Refusals, in this order: 1 the header's w or h past 2048; 10 the header's lock past the picture; 2; 4 marks; 12 more
+ * than 64 items; then 5 or 11, whichever the first item that is refused has.
+ */
+uint32_t panel_paint_list(const uint32_t header[PANEL_HEADER_LEN],
+                          uint32_t *picture, size_t picture_len,
+                          uint8_t *marks, size_t marks_len,
+                          const struct panel_item *items, size_t items_len,
+                          uint32_t *stale);
 
 /*
  * Draws the first n stale blocks in row order, or all of them where there are fewer.

@@ -7,8 +7,17 @@ use std::os::raw::c_float;
 /// A session's header: w, h, and left, top, width and height of the lock.
 pub type Header = [u32; 6];
 
+/// One paint of a list, as the C header has it.
+#[repr(C)]
+#[derive(Clone, Copy, Debug, PartialEq, Eq)]
+pub struct Item {
+    pub column: u32,
+    pub row: u32,
+    pub word: u32,
+}
+
 mod c {
-    use super::{c_float, Header};
+    use super::{c_float, Header, Item};
 
     extern "C" {
         pub fn panel_root(x: c_float, root: *mut c_float) -> u32;
@@ -61,6 +70,16 @@ mod c {
             row: u32,
             word: u32,
             changed: *mut u32,
+            stale: *mut u32,
+        ) -> u32;
+        pub fn panel_paint_list(
+            header: *const Header,
+            picture: *mut u32,
+            picture_len: usize,
+            marks: *mut u8,
+            marks_len: usize,
+            items: *const Item,
+            items_len: usize,
             stale: *mut u32,
         ) -> u32;
         pub fn panel_refresh(
@@ -212,6 +231,29 @@ pub fn paint(header: Header, picture: &mut [u32], marks: &mut [u8], column: u32,
         )
     };
     Painted { refusal, changed, stale }
+}
+
+#[derive(Debug, PartialEq, Eq)]
+pub struct PaintedList {
+    pub refusal: u32,
+    pub stale: u32,
+}
+
+pub fn paint_list(header: Header, picture: &mut [u32], marks: &mut [u8], items: &[Item]) -> PaintedList {
+    let mut stale = UNWRITTEN;
+    let refusal = unsafe {
+        c::panel_paint_list(
+            &header,
+            picture.as_mut_ptr(),
+            picture.len(),
+            marks.as_mut_ptr(),
+            marks.len(),
+            items.as_ptr(),
+            items.len(),
+            &mut stale,
+        )
+    };
+    PaintedList { refusal, stale }
 }
 
 #[derive(Debug, PartialEq, Eq)]

@@ -1,9 +1,9 @@
 //! One session call alone: what it answers and leaves by the rules, whatever header, marks and lengths it is lent.
 
 use super::lent::{Bits, Lent};
-use super::machine::{header, lock_of, names, past, Answer, Call, Rectangle, NONE};
+use super::machine::{header, lock_of, names, past, Answer, Call, Rectangle, ITEMS, NONE};
 use super::original;
-use crate::panel::{self, Header};
+use crate::panel::{self, Header, Item};
 
 /// The buffers of a session, as they are lent or as they are left.
 #[derive(Clone)]
@@ -22,8 +22,8 @@ impl Buffers {
     }
 
     /// What the library answers, as the machine would say it; numbers beside a refusal must be 0.
-    pub fn call(&mut self, header: Header, call: Call) -> Result<Answer, String> {
-        let (refusal, beside, answer) = match call {
+    pub fn call(&mut self, header: Header, call: &Call) -> Result<Answer, String> {
+        let (refusal, beside, answer) = match *call {
             Call::Paint { column, row, word } => {
                 let a = panel::paint(header, self.picture.part_mut(), self.marks.part_mut(), column, row, word);
                 let answer = match a.changed {
@@ -32,6 +32,10 @@ impl Buffers {
                     other => return Err(format!("changed is {other}")),
                 };
                 (a.refusal, a.changed | a.stale, answer)
+            }
+            Call::PaintList { ref items } => {
+                let a = panel::paint_list(header, self.picture.part_mut(), self.marks.part_mut(), items);
+                (a.refusal, a.stale, Answer::PaintedList { stale: a.stale })
             }
             Call::Refresh { n } => {
                 let a = panel::refresh(header, self.picture.part(), self.output.part_mut(), self.marks.part_mut(), n);
@@ -89,11 +93,12 @@ fn sizes(header: Header, picture: Option<usize>, output: Option<usize>, marks: O
 }
 
 /// What one call answers, and what it leaves in the buffers.
-fn alone(header: Header, buffers: &mut Buffers, call: Call) -> Answer {
+fn alone(header: Header, buffers: &mut Buffers, call: &Call) -> Answer {
     let (picture, output, marks) = buffers.lengths();
     let (picture, output, marks) = (Some(picture), Some(output), Some(marks));
-    let (refusal, at) = match call {
+    let (refusal, at) = match *call {
         Call::Paint { column, row, .. } => (sizes(header, picture, None, marks), Some((column, row))),
+        Call::PaintList { .. } => (sizes(header, picture, None, marks), None),
         Call::Refresh { .. } => (sizes(header, picture, output, marks), None),
         Call::Show { bx, by } => (sizes(header, None, output, marks), Some((bx, by))),
         Call::Lock { .. } => (sizes(header, None, None, None), None),
@@ -105,8 +110,9 @@ fn alone(header: Header, buffers: &mut Buffers, call: Call) -> Answer {
         return Answer::Refused(5);
     }
     let (w, h) = (header[0] as usize, header[1] as usize);
-    match call {
+    match *call {
         Call::Paint { column, row, word } => paint(header, buffers, (column, row), word),
+        Call::PaintList { ref items } => paint_list(header, buffers, items),
         Call::Refresh { n } => refresh(w, h, buffers, n),
         Call::Show { bx, by } => show(w, buffers, bx as usize, by as usize),
         Call::Lock { lock } => locked(header, lock),
@@ -136,6 +142,24 @@ fn paint([w, h, left, top, width, height]: Header, buffers: &mut Buffers, (x, y)
         }
     }
     Answer::Painted { stale: count(marks) }
+}
+
+/// On a copy, which takes the buffers' place only where every item was taken.
+fn paint_list(header: Header, buffers: &mut Buffers, items: &[Item]) -> Answer {
+    if items.len() > ITEMS {
+        return Answer::Refused(12);
+    }
+    let mut copy = buffers.clone();
+    for &Item { column, row, word } in items {
+        if column >= header[0] || row >= header[1] {
+            return Answer::Refused(5);
+        }
+        if let Answer::Refused(number) = paint(header, &mut copy, (column, row), word) {
+            return Answer::Refused(number);
+        }
+    }
+    *buffers = copy;
+    Answer::PaintedList { stale: count(&buffers.marks.part()[..header[0] as usize * header[1] as usize]) }
 }
 
 fn locked([w, h, ..]: Header, lock: Rectangle) -> Answer {
@@ -169,7 +193,7 @@ fn show(w: usize, buffers: &Buffers, bx: usize, by: usize) -> Answer {
 }
 
 /// One call of the library on these buffers, beside the rules.
-pub fn call_alone(header: Header, mut got: Buffers, call: Call) -> Result<(), String> {
+pub fn call_alone(header: Header, mut got: Buffers, call: &Call) -> Result<(), String> {
     let mut expected = got.clone();
     let said = got.call(header, call);
     let should = Ok(alone(header, &mut expected, call));

@@ -2,7 +2,7 @@
 
 use super::bench::{original_scale, picture, PICTURES};
 use super::times::{best, least, median, time, time_short, Form};
-use crate::panel;
+use crate::panel::{self, Item};
 use std::hint::black_box;
 
 /// A square session whose calls are timed.
@@ -170,6 +170,47 @@ impl<'a> Bench<'a> {
     }
 }
 
+/// The side at which lists of paints are timed, and the pixels of the bar graph that each of them paints.
+const LIST_SIDE: usize = 2048;
+const BARS: usize = 4;
+const LEVELS: usize = 10;
+
+/// A single paint and a list of forty, each of words that change: how many times the one the other takes.
+fn paint_lists(form: Form) {
+    let mut session = Session::open(&picture("page", LIST_SIDE), LIST_SIDE);
+    assert_eq!(session.refresh_all().left, 0);
+    let mut listed = Session::open(&session.picture, LIST_SIDE);
+    assert_eq!(listed.refresh_all().left, 0);
+    let at = |i: usize| (1000 + 3 * (i / LEVELS), 1000 + i % LEVELS);
+    let (single, list) = best(
+        20,
+        || {
+            let (column, row) = at(0);
+            let word = session.picture[row * LIST_SIDE + column] ^ 0x00ff_ffff;
+            time(|| assert_eq!(session.paint(column, row, word).changed, 1))
+        },
+        || {
+            let item = |i| {
+                let (column, row) = at(i);
+                let word = listed.picture[row * LIST_SIDE + column] ^ 0x00ff_ffff;
+                Item { column: column as u32, row: row as u32, word }
+            };
+            let items: Vec<Item> = (0..BARS * LEVELS).map(item).collect();
+            time(|| {
+                let painted = panel::paint_list(listed.header, &mut listed.picture, &mut listed.marks, &items);
+                assert!(painted.refusal == 0 && painted.stale != 0);
+            })
+        },
+    );
+    form.note(&format!(
+        "a session of {LIST_SIDE} by {LIST_SIDE}: one paint {:.1} us, {} paints in one call {:.1} us, {:.3} times as long",
+        single / 1e3,
+        BARS * LEVELS,
+        list / 1e3,
+        list / single
+    ));
+}
+
 /// Prints the rows of every square and picture.
 pub fn run(form: Form) {
     for square in &SQUARES {
@@ -181,4 +222,5 @@ pub fn run(form: Form) {
             bench.keeping();
         }
     }
+    paint_lists(form);
 }

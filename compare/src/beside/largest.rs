@@ -8,11 +8,11 @@
 use super::alone::{call_alone, opening, Buffers};
 use super::font;
 use super::lent::Lent;
-use super::machine::{header, Call, NONE};
+use super::machine::{header, Call, ITEMS, NONE};
 use super::pair::Pair;
 use super::pictures::KINDS;
 use super::random::Random;
-use crate::panel;
+use crate::panel::{self, Item};
 
 const LIMIT: usize = 2048;
 
@@ -44,7 +44,7 @@ impl List {
 
     fn call(&mut self, call: Call) -> Result<(), String> {
         self.calls += 1;
-        self.pair.call(call).map(|_| ())
+        self.pair.call(&call).map(|_| ())
     }
 
     /// The word at each place altered by a mask, then the first one painted again as it stands; two positions outside.
@@ -57,6 +57,25 @@ impl List {
         self.call(Call::Paint { column: 0, row: 0, word })?;
         self.call(Call::Paint { column: self.w as u32, row: 0, word })?;
         self.call(Call::Paint { column: 0, row: self.h as u32, word })?;
+        self.pair.same()
+    }
+
+    /// The same places by one list, each word twice and so set back in the end but for the last place's; the list once
+    /// more with a position outside behind it, with 65 items, and with none.
+    fn paint_lists(&mut self, mask: u32) -> Result<(), String> {
+        let places = places(self.w, self.h);
+        let item = |&(column, row): &(u32, u32), mask: u32| {
+            let word = self.pair.machine.picture[row as usize * self.w + column as usize] ^ mask;
+            Item { column, row, word }
+        };
+        let mut items: Vec<Item> = places.iter().flat_map(|at| [item(at, mask), item(at, 0)]).collect();
+        items.pop();
+        let mut outside = items.clone();
+        outside.push(Item { column: 0, row: self.h as u32, word: 0 });
+        let many = items.iter().copied().cycle().take(ITEMS + 1).collect();
+        for items in [outside, items, many, Vec::new()] {
+            self.call(Call::PaintList { items })?;
+        }
         self.pair.same()
     }
 
@@ -96,6 +115,7 @@ impl List {
         self.shows()?;
         self.locks()?;
         self.paints(0x0100_0000)?;
+        self.paint_lists(0x0000_ff00)?;
         self.paints(0x0012_3456)?;
         self.shows()?;
         self.refreshes(&[0, 1, 16, 40, 100])?;
@@ -138,9 +158,10 @@ fn refused(random: &mut Random) -> Result<(), String> {
         opening([w, h], buffers(random, LIMIT + 1, [0; 3]))?;
         let paint = Call::Paint { column: 0, row: 0, word: 1 };
         let lock = Call::Lock { lock: [0, 0, w, h] };
-        for call in [paint, Call::Refresh { n: u32::MAX }, Call::Show { bx: 0, by: 0 }, lock] {
-            call_alone(header(w, h, NONE), buffers(random, LIMIT + 1, [0; 3]), call)?;
-            call_alone(header(w, h, [0, 0, w, h]), buffers(random, LIMIT + 1, [0; 3]), call)?;
+        let list = Call::PaintList { items: Vec::new() };
+        for call in [paint, list, Call::Refresh { n: u32::MAX }, Call::Show { bx: 0, by: 0 }, lock] {
+            call_alone(header(w, h, NONE), buffers(random, LIMIT + 1, [0; 3]), &call)?;
+            call_alone(header(w, h, [0, 0, w, h]), buffers(random, LIMIT + 1, [0; 3]), &call)?;
         }
     }
     for sides in [[n, 1], [1, n]] {

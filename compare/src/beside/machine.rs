@@ -1,7 +1,7 @@
 //! The plain machine of a session. It redraws the picture whole by the original, and takes nothing from the library.
 
 use super::original;
-use crate::panel::Header;
+use crate::panel::{Header, Item};
 
 /// A rectangle of the picture: left, top, width, height.
 pub type Rectangle = [u32; 4];
@@ -9,7 +9,7 @@ pub type Rectangle = [u32; 4];
 pub const NONE: Rectangle = [0; 4];
 
 /// Whether the position lies in the rectangle; one of width or height 0 has none.
-fn holds([left, top, width, height]: Rectangle, x: u32, y: u32) -> bool {
+pub fn holds([left, top, width, height]: Rectangle, x: u32, y: u32) -> bool {
     let along = |start: u32, length: u32, at: u32| at.checked_sub(start).is_some_and(|distance| distance < length);
     along(left, width, x) && along(top, height, y)
 }
@@ -37,13 +37,19 @@ pub struct Machine {
     pub picture: Vec<u32>,
     pub stale: Vec<bool>,
     pub output: Vec<u32>,
+    /// The item for which a list of paints was refused last.
+    pub refused_at: Option<usize>,
     /// The present picture enlarged whole, where it was asked for since the last change.
     whole: Option<Vec<u32>>,
 }
 
-#[derive(Clone, Copy, Debug)]
+/// The most items of a list of paints.
+pub const ITEMS: usize = 64;
+
+#[derive(Clone, Debug)]
 pub enum Call {
     Paint { column: u32, row: u32, word: u32 },
+    PaintList { items: Vec<Item> },
     Refresh { n: u32 },
     Show { bx: u32, by: u32 },
     Lock { lock: Rectangle },
@@ -54,6 +60,7 @@ pub enum Answer {
     Refused(u32),
     Unchanged { stale: u32 },
     Painted { stale: u32 },
+    PaintedList { stale: u32 },
     Refreshed { drawn: u32, left: u32 },
     Shown([u32; 9]),
     Locked(Header),
@@ -69,21 +76,23 @@ impl Machine {
     /// Every block is stale, every output word 0, nothing locked.
     pub fn open(w: usize, h: usize, picture: &[u32]) -> Machine {
         let picture = picture[..w * h].to_vec();
-        Machine { w, h, lock: NONE, picture, stale: vec![true; w * h], output: vec![0; 9 * w * h], whole: None }
+        let (stale, output) = (vec![true; w * h], vec![0; 9 * w * h]);
+        Machine { w, h, lock: NONE, picture, stale, output, refused_at: None, whole: None }
     }
 
     pub fn stale_count(&self) -> u32 {
         self.stale.iter().filter(|&&s| s).count() as u32
     }
 
-    pub fn call(&mut self, call: Call) -> Answer {
-        match call {
+    pub fn call(&mut self, call: &Call) -> Answer {
+        match *call {
             Call::Paint { column, row, word } => match self.place(column, row) {
                 Some(at) if self.picture[at] == word => Answer::Unchanged { stale: self.stale_count() },
                 Some(_) if holds(self.lock, column, row) => Answer::Refused(11),
                 Some(at) => self.paint(at, word),
                 None => Answer::Refused(5),
             },
+            Call::PaintList { ref items } => self.paint_list(items),
             Call::Refresh { n } => self.refresh(n),
             Call::Show { bx, by } => match self.place(bx, by) {
                 Some(at) if self.stale[at] => Answer::Refused(7),
@@ -126,6 +135,22 @@ impl Machine {
             *stale |= names((at % self.w, at / self.w), (i % self.w, i / self.w));
         }
         Answer::Painted { stale: self.stale_count() }
+    }
+
+    /// A list as its items, one after another, with one answer; one that is refused as nothing but its number.
+    fn paint_list(&mut self, items: &[Item]) -> Answer {
+        if items.len() > ITEMS {
+            return Answer::Refused(12);
+        }
+        let (picture, stale) = (self.picture.clone(), self.stale.clone());
+        for (i, &Item { column, row, word }) in items.iter().enumerate() {
+            if let Answer::Refused(number) = self.call(&Call::Paint { column, row, word }) {
+                (self.picture, self.stale, self.whole) = (picture, stale, None);
+                self.refused_at = Some(i);
+                return Answer::Refused(number);
+            }
+        }
+        Answer::PaintedList { stale: self.stale_count() }
     }
 
     fn refresh(&mut self, n: u32) -> Answer {

@@ -6,6 +6,7 @@ mod bench_session;
 mod case;
 mod distance;
 mod font;
+mod items;
 mod largest;
 mod lent;
 mod machine;

@@ -46,7 +46,7 @@ impl Pair {
     }
 
     /// Makes a call of both; their answers are alike.
-    pub fn call(&mut self, call: Call) -> Result<Answer, String> {
+    pub fn call(&mut self, call: &Call) -> Result<Answer, String> {
         self.list += &format!("\n  {call:?}");
         let (said, should) = (self.got.call(self.header, call), self.machine.call(call));
         if said != Ok(should) {

@@ -3,9 +3,10 @@
 //! what the rules say of one call alone.
 
 use super::alone::{call_alone, opening, Buffers};
+use super::items::any_items;
 use super::largest;
 use super::lent::Lent;
-use super::machine::{header, lock_of, Answer, Call, Rectangle, NONE};
+use super::machine::{header, lock_of, Answer, Call, Machine, Rectangle, NONE};
 use super::pair::Pair;
 use super::pictures::KINDS;
 use super::random::Random;
@@ -69,7 +70,7 @@ fn any_rectangle(random: &mut Random, w: usize, h: usize) -> Rectangle {
 
 /// A position on a side: mostly any, sometimes of the lock's stretch there: its first or its last, inside it, or just
 /// outside.
-fn any_position(random: &mut Random, side: usize, start: u32, length: u32) -> u32 {
+pub fn any_position(random: &mut Random, side: usize, start: u32, length: u32) -> u32 {
     if length == 0 || random.one_in(2) {
         return any_place(random, side);
     }
@@ -83,7 +84,8 @@ fn any_call(random: &mut Random, header: Header, picture: &[u32]) -> Call {
     let [left, top, width, height] = lock_of(header);
     let (x, y) = (any_position(random, w, left, width), any_position(random, h, top, height));
     match random.below(10) {
-        0..=3 => Call::Paint { column: x, row: y, word: any_word(random, picture, w, x, y) },
+        0..=2 => Call::Paint { column: x, row: y, word: any_word(random, picture, w, x, y) },
+        3 => Call::PaintList { items: any_items(random, header, picture) },
         4 | 5 => Call::Refresh { n: any_number(random, w * h) },
         6 => Call::Lock { lock: any_rectangle(random, w, h) },
         _ => Call::Show { bx: x, by: y },
@@ -91,7 +93,7 @@ fn any_call(random: &mut Random, header: Header, picture: &[u32]) -> Call {
 }
 
 /// The word that stands there, that word with another top byte, one of the picture's, or any.
-fn any_word(random: &mut Random, picture: &[u32], w: usize, x: u32, y: u32) -> u32 {
+pub fn any_word(random: &mut Random, picture: &[u32], w: usize, x: u32, y: u32) -> u32 {
     let here = (y as usize).checked_mul(w).and_then(|row| picture.get(row + x as usize)).copied();
     match (random.below(6), here) {
         (0, Some(word)) => word,
@@ -156,7 +158,7 @@ fn wild(random: &mut Random, header: Header, buffers: &Buffers) -> (Header, Buff
 fn any_alone(random: &mut Random, header: Header, buffers: &Buffers) -> Result<(), String> {
     let (header, got) = wild(random, header, buffers);
     let call = any_call(random, header, got.picture.part());
-    call_alone(header, got, call)
+    call_alone(header, got, &call)
 }
 
 // ---- opening
@@ -186,10 +188,40 @@ struct Tally {
     past: usize,
     locked: usize,
     alone: usize,
+    paint_lists: PaintLists,
+}
+
+/// The lists of paints: how many, with how many items, and how they ended.
+#[derive(Default)]
+struct PaintLists {
+    calls: usize,
+    items: usize,
+    taken: usize,
+    long: usize,
+    /// Refused for the first item, for one between, for the last.
+    refused: [usize; 3],
+}
+
+impl PaintLists {
+    fn add(&mut self, items: usize, answer: Answer, refused_at: Option<usize>) {
+        self.calls += 1;
+        self.items += items;
+        match answer {
+            Answer::Refused(12) => self.long += 1,
+            Answer::Refused(_) => {
+                let at = refused_at.expect("the item that was refused");
+                self.refused[if at == 0 { 0 } else { 1 + usize::from(at + 1 == items) }] += 1;
+            }
+            _ => self.taken += 1,
+        }
+    }
 }
 
 impl Tally {
-    fn add(&mut self, call: Call, answer: Answer) {
+    fn add(&mut self, call: &Call, answer: Answer, machine: &Machine) {
+        if let Call::PaintList { items } = call {
+            self.paint_lists.add(items.len(), answer, machine.refused_at);
+        }
         self.calls += 1;
         self.refused += usize::from(matches!(answer, Answer::Refused(_)));
         self.locks += usize::from(matches!(call, Call::Lock { .. }));
@@ -198,12 +230,13 @@ impl Tally {
     }
 }
 
-/// The call of a turn: one turn of every list is a lock, and the first of some draws everything.
-fn turn(random: &mut Random, turn: usize, lock_at: usize, drawn_first: bool, pair: &Pair) -> Call {
+/// The call of a turn: one turn of every list is a lock, one a list of paints, and the first of some draws everything.
+fn turn(random: &mut Random, turn: usize, [lock_at, items_at]: [usize; 2], drawn_first: bool, pair: &Pair) -> Call {
     let [w, h, ..] = pair.header;
     match turn {
         0 if drawn_first => Call::Refresh { n: u32::MAX },
         _ if turn == lock_at => Call::Lock { lock: any_rectangle(random, w as usize, h as usize) },
+        _ if turn == items_at => Call::PaintList { items: any_items(random, pair.header, &pair.machine.picture) },
         _ => any_call(random, pair.header, &pair.machine.picture),
     }
 }
@@ -215,13 +248,14 @@ fn any_list(random: &mut Random, kind: usize, tally: &mut Tally) -> Result<(), S
     let title = format!("{w} by {h}, lengths {lengths:?}, picture {first:08x?}");
     let mut pair = Pair::open(title, (w, h), &first, lengths, random)?;
     tally.lists += 1;
-    let turns = random.between(2, 24);
+    let turns = random.between(3, 24);
     let (lock_at, drawn_first) = (random.between(1, turns - 1), random.one_in(2));
+    let items_at = 1 + (lock_at + random.below(turns - 2)) % (turns - 1);
     for i in 0..turns {
-        let call = turn(random, i, lock_at, drawn_first, &pair);
-        let answer = pair.call(call)?;
+        let call = turn(random, i, [lock_at, items_at], drawn_first, &pair);
+        let answer = pair.call(&call)?;
         pair.same()?;
-        tally.add(call, answer);
+        tally.add(&call, answer, &pair.machine);
         if random.one_in(4) {
             tally.alone += 1;
             any_alone(random, pair.header, &pair.got)?;
@@ -270,6 +304,11 @@ pub fn run(count: usize, seed: u64) -> bool {
         tally.locked,
         tally.alone,
         found.len()
+    );
+    let PaintLists { calls, items, taken, long, refused: [first, between, last] } = tally.paint_lists;
+    println!(
+        "session: a list of paints in every list of calls, {calls} of {items} items: {taken} taken, {long} refused for more than \
+         64, {first} for their first item, {between} for one between, {last} for the last"
     );
     largest && found.is_empty()
 }

@@ -2,7 +2,12 @@
 use header::Header;
 use header::Rectangle;
 use libc::STDOUT_FILENO;
+use paints::Paint;
+use paints::none;
+use session::PaintedList;
 use session::Session;
+ghost use Rattle.machine.specs.Calls.{PaintLists};
+ghost use Rattle.three.specs.Three.{screen3};
 
 fn number(n: u32) {
     io::write_all(STDOUT_FILENO, b" ");
@@ -88,6 +93,74 @@ fn locks() {
     paint(n, &mut picture, &mut marks, 3, 2, 5);
 }
 
+fn list(session: Session, picture: &mut [u32], marks: &mut [u8], a: [Paint; 64], n: u32) {
+    let p = session.paint_gathered(picture, marks, a, n as usize);
+    line(b"list", p.refusal, p.stale, n);
+}
+
+// Four paints, lent as a slice. As every function that has a `&[Paint]`, it is proved by hand.
+fn lend(session: Session, picture: &mut [u32], marks: &mut [u8], a: [Paint; 4]) -> PaintedList
+    ensures { λ r. ⌜ PaintLists screen3 (session .header) (now (picture .entry)) (now (marks .entry)) a
+        (record {
+          picture = now (picture .exit);
+          marks = now (marks .exit);
+          refusal = r .refusal;
+          stale = r .stale;
+        }) ⌝ }
+{
+    session.paint_list(picture, marks, &a)
+}
+
+fn four(session: Session, picture: &mut [u32], marks: &mut [u8], a: [Paint; 4]) {
+    let p = lend(session, picture, marks, a);
+    line(b"list", p.refusal, p.stale, 4);
+}
+
+fn item(column: u32, row: u32, word: u32) -> Paint {
+    Paint { column, row, word }
+}
+
+// Lists of paints on a picture of 4 by 3 with its last four pixels locked: each line has the refusal, the stale count and the items.
+fn lists() {
+    let mut picture = [1u32; 12];
+    let mut output = [7u32; 108];
+    let mut marks = [3u8; 12];
+    let o = Session::open(4, 3, &picture, &mut output, &mut marks);
+    let s = lock(o.session, 2, 1, 2, 2);
+    refresh(s, &picture, &mut output, &mut marks, 12);
+    let mut a = none();
+    list(s, &mut picture, &mut marks, a, 0);
+    // Equal words, one of them in the lock; another word in the lock behind a word that changes, which is not kept.
+    a[0] = item(0, 0, 1);
+    a[1] = item(2, 1, 1);
+    list(s, &mut picture, &mut marks, a, 2);
+    a[0] = item(0, 0, 5);
+    a[2] = item(2, 1, 5);
+    list(s, &mut picture, &mut marks, a, 3);
+    line(b"words", picture[0], picture[6], 0);
+    // A position outside behind it, and before it.
+    a[2] = item(4, 0, 1);
+    list(s, &mut picture, &mut marks, a, 3);
+    a[0] = item(0, 3, 1);
+    list(s, &mut picture, &mut marks, a, 3);
+    // 64 items are looked at, and of 65 none.
+    list(s, &mut picture, &mut marks, a, 64);
+    list(s, &mut picture, &mut marks, a, 65);
+    // One position three times, with the word that was there at the end: its blocks are stale.
+    a[0] = item(0, 0, 5);
+    a[1] = item(0, 0, 6);
+    a[2] = item(0, 0, 1);
+    list(s, &mut picture, &mut marks, a, 3);
+    line(b"words", picture[0], picture[6], 0);
+    // Through a slice: the last of four in the lock, and then the four taken.
+    let b = [item(0, 0, 8), item(1, 0, 9), item(0, 0, 10), item(3, 2, 5)];
+    four(s, &mut picture, &mut marks, b);
+    line(b"words", picture[0], picture[1], picture[11]);
+    let c = [item(0, 0, 8), item(1, 0, 9), item(0, 0, 10), item(3, 2, 1)];
+    four(s, &mut picture, &mut marks, c);
+    line(b"words", picture[0], picture[1], picture[11]);
+}
+
 // A header that no call answered: its lock reaches past the picture.
 fn wild() {
     let picture = [0u32; 4];
@@ -145,5 +218,6 @@ fn main() {
     show(s, &output, &marks, 0, 32);
     too_wide();
     locks();
+    lists();
     wild();
 }

@@ -15,36 +15,19 @@ use Rattle.header.specs.declared.Header.{Header}
 use Rattle.header.specs.Header.{locked, past, noLock, fresh, noHeader}
 use Rattle.machine.specs.Lists.{count}
 use Rattle.machine.specs.Screen.{Screen, Lawful, blockWords, place}
-use Rattle.machine.specs.Machine.{State, Call, Paint, Refresh, Show, Lock, Answer, Painted, Locked, inside, putAll, blockAt}
-use Rattle.machine.specs.Machine.{opened, store, redraw, headerOf, relock, step, after, answers}
-use Rattle.machine.specs.Calls.{sideLong, refusalAll, OpenEnd, openEnd, Paints, Refreshes, Shows, Locks}
-use Rattle.machine.specs.Demand3.{Buffers, latest, Ran, none, paint, refresh, show, lock, Trace, Further, byteOf, whole, started, left, Holds, Follows, Demand3}
+use Rattle.machine.specs.Machine.{State, Call, Paint, PaintList, Refresh, Show, Lock, Answer, Locked, putAll, blockAt}
+use Rattle.machine.specs.Machine.{opened, redraw, headerOf, relock, step, after, answers}
+use Rattle.machine.specs.Calls.{sideLong, refusalAll, OpenEnd, openEnd, Paints, PaintLists, Refreshes, Shows, Locks}
+use Rattle.machine.specs.Demand3.{Buffers, latest, Ran, none, paint, paint-list, refresh, show, lock, Trace, Further, byteOf, whole, started, left, Holds, Follows, Demand3}
 use Rattle.machine.proofs.Places.{block-lt}
 use Rattle.machine.proofs.Lists.{length-bytes, bytes-replicate, count-replicate, first-replicate, count-cleared, length-table, getD-table, none-true}
-use Rattle.machine.proofs.Good.{Good, good-opened, good-store, good-redraw, good-relock, good-same}
-use Rattle.machine.proofs.Held.{held, unmet, inside-of, stale-held, block-append, paint-held, refresh-held, show-held, lock-held}
+use Rattle.machine.proofs.Good.{Good, good-opened, good-redraw, good-relock, good-same}
+use Rattle.machine.proofs.Held.{held, unmet, stale-held, block-append, paint-held, refresh-held, show-held, lock-held}
+use Rattle.machine.proofs.Items.{by-paint, good-paint, by-list, good-list, list-held}
 
 -- ---- the machine alone
 
 module _ (S : Screen) (L : Lawful S) (w h : ℕ) where
-  -- what holds of a state, and of it once the word is stored, holds after a paint
-  pub by-paint : (P : State → Type 0) (column row word : ℕ) (s : State) → P s
-      → (column < w → row < h → locked (s .lock) column row ≡ false → P (store S w h column row word s)) → P (step S w h (Paint column row word) s .0)
-  by-paint P column row word s same stored =
-      by-tests (inside w h column row) refl (eqb word (getD (s .picture) (row * w + column) 0)) (locked (s .lock) column row) refl
-    where
-      t : State
-      t = store S w h column row word s
-
-      by-tests : (b : Bool) → inside w h column row ≡ b → (u k : Bool) → locked (s .lock) column row ≡ k
-          → P
-          (cond {A = State × Answer} b
-          (cond u (s, Painted 0 0 (count (s .stale))) (cond k (s, Painted 11 0 0) (t, Painted 0 1 (count (t .stale))))) (s, Painted 5 0 0) .0)
-      by-tests false e u k f = same
-      by-tests true e true k f = same
-      by-tests true e false true f = same
-      by-tests true e false false f = let i = inside-of w h column row e in stored (i .0) (i .1) f
-
   -- what holds of a state, and of it with the rectangle locked, holds after a lock
   by-lock : (P : State → Type 0) (r : Rectangle) (s : State) → P s → (past w h r ≡ false → P (relock r s)) → P (step S w h (Lock r) s .0)
   by-lock P r s same locked = by-past (past w h r) refl
@@ -54,7 +37,8 @@ module _ (S : Screen) (L : Lawful S) (w h : ℕ) where
       by-past false e = locked e
 
   pub good-step : (c : Call) (s : State) → Good S w h s → Good S w h (step S w h c s .0)
-  good-step (Paint column row word) s g = by-paint (Good S w h) column row word s g (λ c r f. good-store S L w h column row word s c r g)
+  good-step (Paint column row word) s g = good-paint S L w h column row word s g
+  good-step (PaintList items) s g = good-list S L w h items s g
   good-step (Refresh n) s g = good-redraw S L w h (min n (count (s .stale))) s g
   good-step (Show bx by) s g = g
   good-step (Lock r) s g = by-lock (Good S w h) r s g (λ e. good-relock S L w h r s e g)
@@ -132,6 +116,13 @@ module _ (S : Screen) (L : Lawful S) (w h : ℕ) (sides : sideLong (S .side) w h
       (subst₂ (λ (k : Header) (b : Buffers). Paints S k (b .picture) (b .marks) column row word d) a q p) in
       let i = ran-held r (step S w h (Paint column row word) s .0) (good-step S L w h (Paint column row word) s g)
       (a ∙ by-paint S L w h (λ t. headerOf w h s ≡ headerOf w h t) column row word s refl (λ c r f. refl))
+      (ap (λ (b : Buffers). record { picture = d .picture; output = b .output; marks = d .marks }) q ∙ ap (λ (t : Buffers × Answer). t .0) t) in
+      (i .0, i .1, ap₂ {C = List Answer} _∷_ (ap (λ (t : Buffers × Answer). t .1) t) (i .2))
+  ran-held (paint-list {items = items} {d = d} p r) s g a q =
+      let t = list-held S L w h sides tp to tm s g items d
+      (subst₂ (λ (k : Header) (b : Buffers). PaintLists S k (b .picture) (b .marks) items d) a q p) in
+      let i = ran-held r (step S w h (PaintList items) s .0) (good-step S L w h (PaintList items) s g)
+      (a ∙ by-list S L w h (λ t. headerOf w h s ≡ headerOf w h t) (λ column row word t e c r f. e) items s refl)
       (ap (λ (b : Buffers). record { picture = d .picture; output = b .output; marks = d .marks }) q ∙ ap (λ (t : Buffers × Answer). t .0) t) in
       (i .0, i .1, ap₂ {C = List Answer} _∷_ (ap (λ (t : Buffers × Answer). t .1) t) (i .2))
   ran-held (refresh {n = n} {d = d} p r) s g a q =

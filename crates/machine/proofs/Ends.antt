@@ -1,22 +1,23 @@
 -- What a call promises, from its refusal and from what its parts do. Assumes nothing.
-use mathlib.Core.Path.{_≡_, refl, ap, _∙_}
+use mathlib.Core.Path.{_≡_, refl, sym, ap, _∙_}
+use mathlib.Core.Logic.{_⊎_, inl, inr, ⊎-elim}
 use mathlib.Core.Bool.{Bool, true, false, cond, not}
 use mathlib.Core.List.{List, [], _∷_, _++_}
 use Prim.Native.Nat.{ℕ, zero, suc, _+_, _-_, _*_, _≤_}
 use native.Mathlib.Nat.{mul-le-mul}
 use native.Mathlib.Omega.{arith}
 use lib.Dec.{ltb}
-use lib.ListN.{length, getD, set, take, drop, replicate}
+use lib.ListN.{length, set, take, drop, replicate}
 use borrow.Author.Tests.{ne-eqb, eq-eqb, ltb-false}
 use Rattle.picture.proofs.Bools.{or-none}
 use Rattle.header.specs.declared.Rectangle.{Rectangle}
 use Rattle.header.specs.declared.Header.{Header}
 use Rattle.header.specs.Header.{past, fresh, withLock, noHeader}
-use Rattle.machine.specs.Lists.{stamp, setAll, count, first}
+use Rattle.machine.specs.Lists.{setAll, count, first}
 use Rattle.machine.specs.Screen.{Screen, blockWords}
-use Rattle.machine.specs.Machine.{inside, names, putAll, blockAt}
-use Rattle.machine.specs.Calls.{isStale, staleOf, sideLong, refusalHeader, refusalAll, refusalPaint, refusalShow, refusalLock}
-use Rattle.machine.specs.Calls.{openEnd, paintEnd, refreshEnd, showEnd, lockEnd, Opens, Paints, Refreshes, Shows, Locks}
+use Rattle.machine.specs.Machine.{inside, putAll, blockAt}
+use Rattle.machine.specs.Calls.{isStale, staleOf, sideLong, refusalHeader, refusalAll, refusalLent, refusalPaint, refusalShow, refusalLock}
+use Rattle.machine.specs.Calls.{openEnd, refreshEnd, showEnd, lockEnd, Opens, Refreshes, Shows, Locks}
 use Rattle.machine.specs.Lent.{Lent, LentPaint, LentShow}
 use Rattle.machine.proofs.Places.{block-lt, area}
 use Rattle.machine.proofs.Lists.{first-length, first-min, count-cleared}
@@ -59,13 +60,48 @@ header-refused side header f x e z = by-tests (sideLong side (header .w) (header
     by-tests false true e = e
     by-tests false false e = absurd (z e)
 
+-- a call that is lent picture and marks is refused by what it was lent, whatever would come next, or what comes next decides
+abbrev pub Decided : ℕ → Header → ℕ → ℕ → Type 0
+Decided side header p m =
+    ((n : ℕ) × ((x : ℕ) → refusalLent side header p m x ≡ suc n)) ⊎ ((x : ℕ) → refusalLent side header p m x ≡ x)
+
+pub decided : (side : ℕ) (header : Header) (p m : ℕ) → Decided side header p m
+decided side header p m =
+    let n = header .w * header .h in
+    by-tests (sideLong side (header .w) (header .h)) (past (header .w) (header .h) (header .lock)) (ltb p n) (ltb m n)
+  where
+    number : Bool → Bool → Bool → Bool → ℕ → ℕ
+    number a b c d x = cond a 1 (cond b 10 (cond c 2 (cond d 4 x)))
+
+    by-tests : (a b c d : Bool) → ((n : ℕ) × ((x : ℕ) → number a b c d x ≡ suc n)) ⊎ ((x : ℕ) → number a b c d x ≡ x)
+    by-tests true b c d = inl (0, λ x. refl)
+    by-tests false true c d = inl (9, λ x. refl)
+    by-tests false false true d = inl (1, λ x. refl)
+    by-tests false false false true = inl (3, λ x. refl)
+    by-tests false false false false = inr (λ x. refl)
+
+pub lent-taken : (side : ℕ) (header : Header) (p m : ℕ) → refusalLent side header p m 0 ≡ 0
+    → (sideLong side (header .w) (header .h) ≡ false) × (header .w * header .h ≤ p)
+lent-taken side header p m e =
+    let a = unmet (sideLong side (header .w) (header .h)) 0 _ e in
+    let c = unmet (ltb p (header .w * header .h)) 1 _ (unmet (past (header .w) (header .h) (header .lock)) 9 _ (a .1) .1) in
+    (a .0, ltb-false p (header .w * header .h) (c .0))
+
+-- where it is not refused by what it was lent, what comes next decides; where it is, nothing that would come next matters
+pub lent-next : (side : ℕ) (header : Header) (p m x : ℕ) → refusalLent side header p m 0 ≡ 0 → x ≡ refusalLent side header p m x
+lent-next side header p m x e = ⊎-elim (λ t. absurd (omega (arith, e, t .1 0))) (λ q. sym (q x)) (decided side header p m)
+
+pub lent-refused : (side : ℕ) (header : Header) (p m f x : ℕ) → f ≡ refusalLent side header p m 0 → (f ≡ 0 → ⊥) → f ≡ refusalLent side header p m x
+lent-refused side header p m f x e z =
+    ⊎-elim (λ t. e ∙ t .1 0 ∙ sym (t .1 x)) (λ q. absurd (z (e ∙ q 0))) (decided side header p m)
+
 in-it : (i : Bool) (m n : ℕ) → cond i m (suc n) ≡ 0 → i ≡ true
 in-it true m n e = refl
 in-it false m n e = absurd (omega arith)
 
 module _ (S : Screen) (header : Header) where
   -- the header's two checks, and then what follows them
-  header-lent : (x : ℕ) → refusalHeader (S .side) header x ≡ 0 → (header .w ≤ S .side) × (header .h ≤ S .side) × (x ≡ 0)
+  pub header-lent : (x : ℕ) → refusalHeader (S .side) header x ≡ 0 → (header .w ≤ S .side) × (header .h ≤ S .side) × (x ≡ 0)
   header-lent x e =
       let q = unmet (sideLong (S .side) (header .w) (header .h)) 0 _ e in
       let s = sides (S .side) (header .w) (header .h) (q .0) in
@@ -163,22 +199,6 @@ module _ (S : Screen) (header : Header) where
         record {
           is = rw (← e, eq-eqb f 0 z, first-min n s, ← left-now, eo, em, ed, first-length n s);
         }
-
-  module _ (p m : List ℕ) (column row word f : ℕ) (e : f ≡ refusalPaint (S .side) header p (length m) column row word) where
-    pub paint-refused : (f ≡ 0 → ⊥) → Paints S header p m column row word (record { picture = p; marks = m; refusal = f; changed = 0; stale = 0 })
-    unfolding paintEnd
-    paint-refused z = record { is = rw (← e, ne-eqb f 0 z) }
-
-    pub paint-same : f ≡ 0 → word ≡ getD p (row * header .w + column) 0 → (l : ℕ) → l ≡ count (staleOf blocks m)
-        → Paints S header p m column row word (record { picture = p; marks = m; refusal = 0; changed = 0; stale = l })
-    unfolding paintEnd
-    paint-same z q l el = record { is = rw (← e, eq-eqb f 0 z, eq-eqb word (getD p (row * header .w + column) 0) q, el) }
-
-    pub paint-done : f ≡ 0 → (word ≡ getD p (row * header .w + column) 0 → ⊥) → (p′ m′ : List ℕ) (l : ℕ) → p′ ≡ set p (row * header .w + column) word
-        → m′ ≡ stamp (names S (header .w) (header .h) column row) 1 m → l ≡ count (staleOf blocks m′)
-        → Paints S header p m column row word (record { picture = p′; marks = m′; refusal = 0; changed = 1; stale = l })
-    unfolding paintEnd
-    paint-done z q p′ m′ l ep em el = record { is = rw (← e, eq-eqb f 0 z, ne-eqb word (getD p (row * header .w + column) 0) q, el, ep, em) }
 
   module _ (o m : List ℕ) (bx by f : ℕ) (e : f ≡ refusalShow (S .side) (blockWords S) header (length o) m bx by) where
     pub show-refused : (f ≡ 0 → ⊥) → (ws : List ℕ) → ws ≡ replicate (blockWords S) 0 → Shows S header o m bx by (record { refusal = f; words = ws })

@@ -17,7 +17,7 @@ use Rattle.machine.specs.Lists.{stamp, setAll, count, first}
 use Rattle.machine.specs.Screen.{Screen, Lawful, blockWords, place}
 use Rattle.machine.specs.Machine.{State, Paint, Refresh, Show, Lock, Answer, Painted, Refreshed, Shown, Locked, inside, names, putWords, putBlock, putAll, blockAt}
 use Rattle.machine.specs.Machine.{store, redraw, headerOf, relock, step}
-use Rattle.machine.specs.Calls.{isStale, staleOf, sideLong, refusalHeader, refusalAll, refusalPaint, refusalShow, PaintEnd, RefreshEnd, ShowEnd, LockEnd}
+use Rattle.machine.specs.Calls.{isStale, staleOf, sideLong, refusalHeader, refusalAll, refusalLent, refusalPaint, refusalShow, PaintEnd, RefreshEnd, ShowEnd, LockEnd}
 use Rattle.machine.specs.Calls.{paintEnd, refreshEnd, showEnd, lockEnd, Paints, Refreshes, Shows, Locks}
 use Rattle.machine.specs.Demand3.{Buffers, byteOf, latest}
 use Rattle.machine.proofs.Places.{block-lt, spot-lt}
@@ -42,7 +42,7 @@ and-false false b e = refl
 
 -- ---- the buffers
 
-abbrev bytes : State → List ℕ
+abbrev pub bytes : State → List ℕ
 bytes s = map byteOf (s .stale)
 
 -- the buffers that hold s, with tp, to and tm behind it
@@ -123,6 +123,13 @@ module _ (S : Screen) (L : Lawful S) (w h : ℕ) (sides : sideLong (S .side) w h
       (output-long S w h s g to)
       ∙ ap (λ (t : Bool). cond {A = ℕ} t 4 0) (marks-long S w h s g tm)
 
+  -- nor are the lengths of picture and marks
+  pub beyond-lent : (x : ℕ) → refusalLent (S .side) header (length (s .picture ++ tp)) (length (bytes s ++ tm)) x ≡ x
+  beyond-lent x =
+      let short : ℕ = cond (ltb (length (bytes s ++ tm)) (w * h)) 4 x in
+      beyond-header (cond (ltb (length (s .picture ++ tp)) (w * h)) 2 short)
+      ∙ beyond (ltb (length (s .picture ++ tp)) (w * h)) (ltb (length (bytes s ++ tm)) (w * h)) 2 4 x (picture-long S w h s g tp) (marks-long S w h s g tm)
+
   pub paint-held : (column row word : ℕ) (d : PaintEnd) → Paints S header (s .picture ++ tp) (bytes s ++ tm) column row word d
       → _≡_ {A = Buffers × Answer}
       (record { picture = d .picture; output = s .output ++ to; marks = d .marks }, Painted (d .refusal) (d .changed) (d .stale))
@@ -165,10 +172,7 @@ module _ (S : Screen) (L : Lawful S) (w h : ℕ) (sides : sideLong (S .side) w h
       own u k = cond u 0 (cond k 11 0)
 
       sized : refusalPaint (S .side) header P (length M) column row word ≡ cond (inside w h column row) (own (eqb word (getD P at 0)) K) 5
-      sized =
-          let x : ℕ = cond (inside w h column row) (own (eqb word (getD P at 0)) K) 5 in
-          beyond-header (cond (ltb (length P) (w * h)) 2 (cond (ltb (length M) (w * h)) 4 x))
-          ∙ beyond (ltb (length P) (w * h)) (ltb (length M) (w * h)) 2 4 x (picture-long S w h s g tp) (marks-long S w h s g tm)
+      sized = beyond-lent (cond (inside w h column row) (own (eqb word (getD P at 0)) K) 5)
 
       -- what the machine does inside the picture
       machine : Bool → Bool → State × Answer

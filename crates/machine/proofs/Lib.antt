@@ -2,7 +2,11 @@ pub mod Lists
 pub mod Places
 pub mod Good
 pub mod Held
+pub mod Items
 pub mod Demand3
 pub mod Order
 pub mod Ends
+pub mod PaintEnds
+pub mod Turns
+pub mod ListEnds
 pub mod Locked

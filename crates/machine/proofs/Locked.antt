@@ -9,17 +9,20 @@ use lib.Seq.{getD-set-other}
 use Rattle.header.specs.declared.Header.{Header}
 use Rattle.header.specs.Header.{locked}
 use Rattle.header.proofs.Laws.{locked-inside}
+use Rattle.paints.specs.declared.Paint.{Paint as Item}
 use Rattle.machine.specs.Screen.{Screen, Lawful}
-use Rattle.machine.specs.Machine.{State, Call, Paint, Refresh, Show, Answer, step, after}
+use Rattle.machine.specs.Machine.{State, Call, Paint, PaintList, Refresh, Show, Answer, store, step, after}
 use Rattle.machine.specs.Demand3.{Buffers, Ran, Trace}
 use Rattle.machine.proofs.Places.{block-lt, digits-same}
 use Rattle.machine.proofs.Good.{Good}
-use Rattle.machine.proofs.Demand3.{by-paint, good-step, good-after, met, good-met, more, ended}
+use Rattle.machine.proofs.Demand3.{good-step, good-after, met, good-met, more, ended}
+use Rattle.machine.proofs.Items.{by-paint, by-list}
 
 -- a list of calls without a lock
 pub data LocksNothing : List Call → Type 0 where
   none : LocksNothing []
   paint : {cs : List Call} {column row word : ℕ} → LocksNothing cs → LocksNothing (Paint column row word ∷ cs)
+  paint-list : {cs : List Call} {items : List Item} → LocksNothing cs → LocksNothing (PaintList items ∷ cs)
   refresh : {cs : List Call} {n : ℕ} → LocksNothing cs → LocksNothing (Refresh n ∷ cs)
   show : {cs : List Call} {bx by : ℕ} → LocksNothing cs → LocksNothing (Show bx by ∷ cs)
 
@@ -28,23 +31,29 @@ module _ (S : Screen) (L : Lawful S) (w h column row : ℕ) where
   abbrev wordOf : State → ℕ
   wordOf s = getD (s .picture) (row * w + column) 0
 
-  paint-kept : (x y word : ℕ) (s : State) → Good S w h s → locked (s .lock) column row ≡ true
-      → (step S w h (Paint x y word) s .0 .lock ≡ s .lock) × (wordOf (step S w h (Paint x y word) s .0) ≡ wordOf s)
-  paint-kept x y word s g e =
-      by-paint S L w h (λ t. (t .lock ≡ s .lock) × (wordOf t ≡ wordOf s)) x y word s (refl, refl)
-      (λ c r f. (
-        refl,
-        getD-set-other (s .picture) (y * w + x) (row * w + column) word 0
-            (λ q. let d = digits-same row y w column x (locked-inside (s .lock) w h column row (g .lock-inside) e .0) c q in
-            true≢false (sym e ∙ ap₂ (locked (s .lock)) (d .1) (d .0) ∙ f)),
-      ))
+  -- the lock and the word of t are those of s
+  abbrev Kept : State → State → Type 0
+  Kept s t = (t .lock ≡ s .lock) × (wordOf t ≡ wordOf s)
+
+  store-kept : (s : State) → Good S w h s → locked (s .lock) column row ≡ true
+      → (x y word : ℕ) (t : State) → Kept s t → x < w → y < h → locked (t .lock) x y ≡ false → Kept s (store S w h x y word t)
+  store-kept s g e x y word t k c r f = (
+    k .0,
+    getD-set-other (t .picture) (y * w + x) (row * w + column) word 0
+        (λ q. let d = digits-same row y w column x (locked-inside (s .lock) w h column row (g .lock-inside) e .0) c q in
+        true≢false (sym e ∙ ap₂ (locked (s .lock)) (d .1) (d .0) ∙ ap (λ l. locked l x y) (sym (k .0)) ∙ f))
+        ∙ k .1,
+  )
 
   locked-kept : {cs : List Call} → LocksNothing cs → (s : State) → Good S w h s → locked (s .lock) column row ≡ true
       → wordOf (after S w h cs s) ≡ wordOf s
   locked-kept none s g e = refl
   locked-kept (paint {column = x} {row = y} {word = word} n) s g e =
-      let k = paint-kept x y word s g e in
+      let k = by-paint S L w h (Kept s) x y word s (refl, refl) (store-kept s g e x y word s (refl, refl)) in
       locked-kept n (step S w h (Paint x y word) s .0) (good-step S L w h (Paint x y word) s g) (ap (λ l. locked l column row) (k .0) ∙ e) ∙ k .1
+  locked-kept (paint-list {items = items} n) s g e =
+      let k = by-list S L w h (Kept s) (store-kept s g e) items s (refl, refl) in
+      locked-kept n (step S w h (PaintList items) s .0) (good-step S L w h (PaintList items) s g) (ap (λ l. locked l column row) (k .0) ∙ e) ∙ k .1
   locked-kept (refresh {n = n} r) s g e = locked-kept r (step S w h (Refresh n) s .0) (good-step S L w h (Refresh n) s g) e
   locked-kept (show r) s g e = locked-kept r s g e
 

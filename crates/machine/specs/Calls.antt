@@ -2,7 +2,7 @@
 -- every length and every contents. Definitions only.
 use mathlib.Core.Path.{_≡_}
 use mathlib.Core.Bool.{Bool, cond, _||_, not}
-use mathlib.Core.List.{List, _++_, map}
+use mathlib.Core.List.{List, [], _∷_, _++_, map}
 use Prim.Native.Nat.{ℕ, _+_, _*_, min}
 use lib.Dec.{ltb, eqb}
 use lib.ListN.{length, getD, set, take, drop, replicate}
@@ -10,9 +10,11 @@ use Rattle.picture.specs.Refusal as refusal
 use Rattle.header.specs.declared.Rectangle.{Rectangle}
 use Rattle.header.specs.declared.Header.{Header}
 use Rattle.header.specs.Header.{locked, past, fresh, withLock, noHeader}
+use Rattle.paints.specs.declared.Paint.{Paint}
+use Rattle.paints.specs.Paints.{limit}
 use Rattle.machine.specs.Lists.{stamp, setAll, count, first}
 use Rattle.machine.specs.Screen.{Screen, blockWords}
-use Rattle.machine.specs.Machine.{inside, names, putAll, blockAt}
+use Rattle.machine.specs.Machine.{orElse, inside, names, putAll, blockAt}
 
 -- a mark byte of 0 means not stale, any other stale
 abbrev pub isStale : ℕ → Bool
@@ -36,6 +38,18 @@ pub record PaintEnd : Type 0 where
   pub marks : List ℕ
   pub refusal : ℕ
   pub changed : ℕ
+  pub stale : ℕ
+
+-- of some items of a list: refusal is the number of the first that is refused
+pub record ItemsEnd : Type 0 where
+  pub picture : List ℕ
+  pub marks : List ℕ
+  pub refusal : ℕ
+
+pub record PaintListEnd : Type 0 where
+  pub picture : List ℕ
+  pub marks : List ℕ
+  pub refusal : ℕ
   pub stale : ℕ
 
 pub record RefreshEnd : Type 0 where
@@ -85,17 +99,28 @@ module _ (side words : ℕ) (header : Header) where
       (cond (isStale (getD marks (by * header .w + bx) 0)) refusal.stale refusal.none)
       refusal.outside)))
 
+-- of one paint, by its position and the word that is there: an equal one is not refused, be it locked or not
+abbrev pub refusalWord : Header → List ℕ → ℕ → ℕ → ℕ → ℕ
+refusalWord header picture column row word =
+    cond (inside (header .w) (header .h) column row)
+    (cond (eqb word (getD picture (row * header .w + column) 0)) refusal.none
+    (cond (locked (header .lock) column row) refusal.locked refusal.none))
+    refusal.outside
+
 module _ (side : ℕ) (header : Header) where
-  -- of paint, which is lent no output and looks at the word that is there: an equal one is not refused, be it locked or not
-  abbrev pub refusalPaint : List ℕ → ℕ → ℕ → ℕ → ℕ → ℕ
-  refusalPaint picture m column row word =
+  -- of a call that is lent picture and marks, and no output; where it is not refused by their lengths, next decides
+  abbrev pub refusalLent : ℕ → ℕ → ℕ → ℕ
+  refusalLent p m next =
       let n = header .w * header .h in
-      refusalHeader side header
-      (cond (ltb (length picture) n) refusal.picture (cond (ltb m n) refusal.scratch
-      (cond (inside (header .w) (header .h) column row)
-      (cond (eqb word (getD picture (row * header .w + column) 0)) refusal.none
-      (cond (locked (header .lock) column row) refusal.locked refusal.none))
-      refusal.outside)))
+      refusalHeader side header (cond (ltb p n) refusal.picture (cond (ltb m n) refusal.scratch next))
+
+  -- of paint
+  abbrev pub refusalPaint : List ℕ → ℕ → ℕ → ℕ → ℕ → ℕ
+  refusalPaint picture m column row word = refusalLent (length picture) m (refusalWord header picture column row word)
+
+  -- of a list of n items, of which the first that is refused at its turn has the number own, 0 for none
+  abbrev pub refusalList : ℕ → ℕ → ℕ → ℕ → ℕ
+  refusalList p m n own = refusalLent p m (cond (ltb limit n) refusal.items own)
 
   -- of a lock, which is lent the header alone and given a rectangle
   abbrev pub refusalLock : Rectangle → ℕ
@@ -129,6 +154,23 @@ module _ (S : Screen) (header : Header) where
       (record { picture = picture; marks = marks; refusal = 0; changed = 0; stale = count (staleOf (w * h) marks) })
       (record { picture = set picture at word; marks = marked; refusal = 0; changed = 1; stale = count (staleOf (w * h) marked) }))
       (record { picture = picture; marks = marks; refusal = r; changed = 0; stale = 0 })
+
+  -- ---- the items of a paint list, one after another, each as a single paint
+  abbrev pub itemsEnd : List Paint → List ℕ → List ℕ → ItemsEnd
+  itemsEnd [] picture marks = record { picture = picture; marks = marks; refusal = 0 }
+  itemsEnd (i ∷ is) picture marks =
+      let first = paintEnd picture marks (i .column) (i .row) (i .word) in
+      let rest = itemsEnd is (first .picture) (first .marks) in
+      record { picture = rest .picture; marks = rest .marks; refusal = orElse (first .refusal) (rest .refusal) }
+
+  -- ---- a paint list: what its items leave, with the stale count after them, or nothing at all
+  unfoldable pub paintListEnd : List ℕ → List ℕ → List Paint → PaintListEnd
+  paintListEnd picture marks items =
+      let end = itemsEnd items picture marks in
+      let r = refusalList (S .side) header (length picture) (length marks) (length items) (end .refusal) in
+      cond (eqb r 0)
+      (record { picture = end .picture; marks = end .marks; refusal = 0; stale = count (staleOf (header .w * header .h) (end .marks)) })
+      (record { picture = picture; marks = marks; refusal = r; stale = 0 })
 
   -- ---- refresh: the first stale blocks in row order, n of them or all, drawn from the picture, with 0 at their marks
   unfoldable pub refreshEnd : List ℕ → List ℕ → List ℕ → ℕ → RefreshEnd
@@ -170,6 +212,9 @@ pub record Opens (S : Screen) (w h : ℕ) (picture output marks : List ℕ) (e :
 module _ (S : Screen) (header : Header) where
   pub record Paints (picture marks : List ℕ) (column row word : ℕ) (e : PaintEnd) : Type 0 where
     pub is : e ≡ paintEnd S header picture marks column row word
+
+  pub record PaintLists (picture marks : List ℕ) (items : List Paint) (e : PaintListEnd) : Type 0 where
+    pub is : e ≡ paintListEnd S header picture marks items
 
   pub record Refreshes (picture output marks : List ℕ) (n : ℕ) (e : RefreshEnd) : Type 0 where
     pub is : e ≡ refreshEnd S header picture output marks n

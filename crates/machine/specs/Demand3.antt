@@ -8,11 +8,12 @@ use lib.Dec.{eqb}
 use lib.ListN.{getD, take, drop, replicate}
 use Rattle.header.specs.declared.Rectangle.{Rectangle}
 use Rattle.header.specs.declared.Header.{Header}
+use Rattle.paints.specs.declared.Paint.{Paint as Item}
 use Rattle.machine.specs.Lists.{table, count}
 use Rattle.machine.specs.Screen.{Screen, blockWords}
-use Rattle.machine.specs.Machine.{State, Call, Paint, Refresh, Show, Lock, Answer, Painted}
+use Rattle.machine.specs.Machine.{State, Call, Paint, PaintList, Refresh, Show, Lock, Answer, Painted, PaintedList}
 use Rattle.machine.specs.Machine.{Refreshed, Shown, Locked, putAll, blockAt, opened, headerOf, after, answers}
-use Rattle.machine.specs.Calls.{staleOf, PaintEnd, RefreshEnd, ShowEnd, LockEnd, Opens, Paints, Refreshes, Shows, Locks}
+use Rattle.machine.specs.Calls.{staleOf, PaintEnd, PaintListEnd, RefreshEnd, ShowEnd, LockEnd, Opens, Paints, PaintLists, Refreshes, Shows, Locks}
 
 -- a session's own buffers
 pub record Buffers : Type 0 where
@@ -34,6 +35,10 @@ pub data Ran (S : Screen) : Header → Buffers → List Call → List Answer →
       → Paints S header (b .picture) (b .marks) column row word d
       → Ran S header (record { picture = d .picture; output = b .output; marks = d .marks }) cs rs last e
       → Ran S header b (Paint column row word ∷ cs) (Painted (d .refusal) (d .changed) (d .stale) ∷ rs) last e
+  paint-list : {header last : Header} {b e : Buffers} {cs : List Call} {rs : List Answer} {items : List Item} {d : PaintListEnd}
+      → PaintLists S header (b .picture) (b .marks) items d
+      → Ran S header (record { picture = d .picture; output = b .output; marks = d .marks }) cs rs last e
+      → Ran S header b (PaintList items ∷ cs) (PaintedList (d .refusal) (d .stale) ∷ rs) last e
   refresh : {header last : Header} {b e : Buffers} {cs : List Call} {rs : List Answer} {n : ℕ} {d : RefreshEnd}
       → Refreshes S header (b .picture) (b .output) (b .marks) n d
       → Ran S header (record { picture = b .picture; output = d .output; marks = d .marks }) cs rs last e
@@ -57,7 +62,7 @@ pub record Trace (S : Screen) (w h : ℕ) (b : Buffers) (stale : ℕ) (cs : List
       (record { output = output; marks = marks; refusal = 0; header = header; stale = stale })
   pub ran : Ran S header (record { picture = b .picture; output = output; marks = marks }) cs rs last e
 
--- a further list: no paint, k refreshes of n blocks each, and any shows and locks
+-- a further list: no paint and no paint list, k refreshes of n blocks each, and any shows and locks
 pub data Further (n : ℕ) : ℕ → List Call → Type 0 where
   none : Further n 0 []
   refresh : {k : ℕ} {cs : List Call} → Further n k cs → Further n (suc k) (Refresh n ∷ cs)

@@ -6,7 +6,7 @@ use Rattle.picture.specs.Refusal as refusal
 use Rattle.header.specs.declared.Rectangle.{Rectangle}
 use Rattle.header.specs.declared.Header.{Header}
 use Rattle.header.specs.Header.{locked, past, noLock}
-use Rattle.machine.specs.Calls.{refusalAll, refusalPaint, refusalShow, refusalLock}
+use Rattle.machine.specs.Calls.{refusalAll, refusalPaint, refusalList, refusalShow, refusalLock}
 
 -- a rectangle that fills a picture of one pixel, and one that reaches past its right border
 abbrev filling : Rectangle
@@ -40,6 +40,17 @@ pub paint-order : (refusalPaint 0 (with across) [] 0 1 0 8 ≡ refusal.side)
     × (refusalPaint 1 (with noLock) (7 ∷ []) 1 0 0 8 ≡ refusal.none)
 unfolding past locked
 paint-order = (refl, refl, refl, refl, refl, refl, refl, refl)
+
+-- a paint list: 1, 10, 2, 4, 12, and then the number of its first item that is refused
+pub list-order : (refusalList 0 (with across) 0 0 65 refusal.outside ≡ refusal.side)
+    × (refusalList 1 (with across) 0 0 65 refusal.outside ≡ refusal.lock)
+    × (refusalList 1 (with filling) 0 0 65 refusal.outside ≡ refusal.picture)
+    × (refusalList 1 (with filling) 1 0 65 refusal.outside ≡ refusal.scratch)
+    × (refusalList 1 (with filling) 1 1 65 refusal.outside ≡ refusal.items)
+    × (refusalList 1 (with filling) 1 1 64 refusal.outside ≡ refusal.outside)
+    × (refusalList 1 (with filling) 1 1 64 refusal.none ≡ refusal.none)
+unfolding past
+list-order = (refl, refl, refl, refl, refl, refl, refl)
 
 -- show: 1, 10, 3, 4, 5, 7
 pub show-order : (refusalShow 0 9 (with across) 8 [] 0 1 ≡ refusal.side)

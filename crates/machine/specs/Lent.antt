@@ -1,6 +1,7 @@
 -- What a call that is not refused was lent: sides within the screen's limit, a position inside the picture, and buffers, whose lengths are
 -- p, o and m, that are long enough. Definitions only.
 use Prim.Native.Nat.{ℕ, _+_, _*_, _≤_, _<_}
+use Rattle.paints.specs.Paints.{limit}
 use Rattle.machine.specs.Screen.{Screen, blockWords}
 
 module _ (S : Screen) (w h : ℕ) where
@@ -20,6 +21,14 @@ module _ (S : Screen) (w h : ℕ) where
     pub across : column < w
     pub down : row < h
     pub at : row * w + column < w * h
+
+  -- n items of a list
+  pub record LentList (p m n : ℕ) : Type 0 where
+    pub wide : w ≤ S .side
+    pub high : h ≤ S .side
+    pub for-picture : w * h ≤ p
+    pub for-marks : w * h ≤ m
+    pub few : n ≤ limit
 
   pub record LentShow (o bx by : ℕ) : Type 0 where
     pub wide : w ≤ S .side

@@ -4,4 +4,6 @@ pub mod Machine
 pub mod Calls
 pub mod Demand3
 pub mod Lent
+pub mod Items
 pub mod Examples
+pub mod ListExamples

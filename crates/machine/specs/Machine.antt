@@ -2,13 +2,15 @@
 -- arguments; it takes nothing from the program. Definitions only. Blocks are numbered in row order: block b is (b % w, b / w).
 use mathlib.Core.Bool.{Bool, true, false, cond, _&&_}
 use mathlib.Core.List.{List, [], _∷_}
-use Prim.Native.Nat.{ℕ, suc, _+_, _*_, _/_, _%_, min}
+use Prim.Native.Nat.{ℕ, zero, suc, _+_, _*_, _/_, _%_, min}
 use lib.Dec.{ltb, eqb}
-use lib.ListN.{getD, set, replicate}
+use lib.ListN.{length, getD, set, replicate}
 use Rattle.picture.specs.Refusal as refusal
 use Rattle.header.specs.declared.Rectangle.{Rectangle}
 use Rattle.header.specs.declared.Header.{Header}
 use Rattle.header.specs.Header.{locked, past, noLock, noHeader}
+use Rattle.paints.specs.declared.Paint.{Paint as Item}
+use Rattle.paints.specs.Paints.{limit}
 use Rattle.machine.specs.Lists.{table, stamp, setAll, count, first}
 use Rattle.machine.specs.Screen.{Screen, blockWords, place}
 
@@ -26,17 +28,32 @@ pub record State : Type 0 where
 -- a call, with its arguments other than header, picture, output and marks
 pub data Call : Type 0 where
   Paint : (column row word : ℕ) → Call
+  PaintList : (items : List Item) → Call
   Refresh : (n : ℕ) → Call
   Show : (bx by : ℕ) → Call
   Lock : (lock : Rectangle) → Call
 
 -- a call's answer: the refusal's number, 0 for none, and what stands beside it, each number of which is 0 beside a refusal
 pub data Answer : Type 0 where
-  -- changed: 1 where the word was stored, 0 for unchanged; stale: the stale count
+  -- changed: 1 where the word was stored, 0 for unchanged; stale, here and below: the stale count
   Painted : (refusal changed stale : ℕ) → Answer
+  PaintedList : (refusal stale : ℕ) → Answer
   Refreshed : (refusal drawn left : ℕ) → Answer
   Shown : (refusal : ℕ) (words : List ℕ) → Answer
   Locked : (refusal : ℕ) (header : Header) → Answer
+
+-- the refusal's number in an answer
+abbrev pub numberOf : Answer → ℕ
+numberOf (Painted refusal changed stale) = refusal
+numberOf (PaintedList refusal stale) = refusal
+numberOf (Refreshed refusal drawn left) = refusal
+numberOf (Shown refusal words) = refusal
+numberOf (Locked refusal header) = refusal
+
+-- of two refusals the first, 0 being none
+abbrev pub orElse : ℕ → ℕ → ℕ
+orElse zero next = next
+orElse (suc n) next = suc n
 
 -- the position lies inside the picture
 abbrev pub inside : ℕ → ℕ → ℕ → ℕ → Bool
@@ -100,11 +117,13 @@ module _ (S : Screen) (w h : ℕ) where
     lock = s .lock;
   }
 
-  -- ---- a call: the state after it, and its answer. Of the refusals only 5, 7, 10 of a lock that is given, and 11 can be read on the
-  -- machine's state: the opening was not refused, so the sides are within their limit, the machine takes no lock that reaches past the
-  -- picture, and it has no buffer that could be short.
-  abbrev pub step : Call → State → State × Answer
-  step (Paint column row word) s =
+  -- ---- a call: the state after it, and its answer. Of the refusals only 5, 7, 10 of a lock that is given, 11 and 12 are the machine's:
+  -- the opening was not refused, so the sides are within their limit, the machine takes no lock that reaches past the picture, and it has
+  -- no buffer that could be short.
+
+  -- a paint
+  abbrev pub paint : ℕ → ℕ → ℕ → State → State × Answer
+  paint column row word s =
       cond (inside w h column row)
       (cond (eqb word (getD (s .picture) (row * w + column) 0))
       (s, Painted 0 0 (count (s .stale)))
@@ -112,6 +131,25 @@ module _ (S : Screen) (w h : ℕ) where
       (s, Painted refusal.locked 0 0)
       (store column row word s, Painted 0 1 (count (store column row word s .stale)))))
       (s, Painted refusal.outside 0 0)
+
+  -- the items of a list, one after another, each as a paint: the state after them, and the number of the first that is refused, 0 for none
+  abbrev pub paints : List Item → State → State × ℕ
+  paints [] s = (s, 0)
+  paints (i ∷ is) s =
+      let first = paint (i .column) (i .row) (i .word) s in
+      let rest = paints is (first .0) in
+      (rest .0, orElse (numberOf (first .1)) (rest .1))
+
+  -- a paint list is its items with one answer, or nothing but its number
+  abbrev pub paintList : List Item → State → State × Answer
+  paintList items s =
+      let end = paints items s in
+      let r = cond (ltb limit (length items)) refusal.items (end .1) in
+      cond (eqb r 0) (end .0, PaintedList 0 (count (end .0 .stale))) (s, PaintedList r 0)
+
+  abbrev pub step : Call → State → State × Answer
+  step (Paint column row word) s = paint column row word s
+  step (PaintList items) s = paintList items s
   step (Refresh n) s =
       let k = min n (count (s .stale)) in
       (redraw k s, Refreshed 0 k (count (redraw k s .stale)))

@@ -1,11 +1,20 @@
-// The calls of a session. The header is an array of six numbers: w, h, and left, top, width and height of the lock.
+// The calls of a session. The header is an array of six numbers: w, h, and left, top, width and height of the lock. A paint of a list is one
+// of three: column, row and word.
 use header::Header;
 use header::Rectangle;
+use paints::Paint;
+use paints::few;
+use paints::none;
 use session::Session;
 ghost use mathlib.Core.Path.{_≡_};
-ghost use Rattle.machine.specs.Calls.{Opens, Paints, Refreshes, Shows, Locks};
+ghost use mathlib.Core.List.{map};
+ghost use Prim.Native.Nat.{_≤_};
+ghost use lib.ListN.{length};
+ghost use Rattle.paints.specs.Paints.{gathered};
+ghost use Rattle.machine.specs.Calls.{Opens, Paints, PaintLists, Refreshes, Shows, Locks};
 ghost use Rattle.three.specs.Three.{screen3};
 ghost use Rattle.panel.specs.Header.{headerOf};
+ghost use Rattle.panel.specs.Item.{paintOf};
 
 // The session that a header's numbers stand for.
 fn session_of(numbers: &[u32; 6]) -> Session
@@ -92,6 +101,51 @@ pub extern "C" fn panel_paint(
     let session = session_of(header);
     let painted = session.paint(picture, marks, column, row, word);
     *changed = painted.changed;
+    *stale = painted.stale;
+    painted.refusal
+}
+
+// The paints that the first m items of a list stand for, by value.
+fn paints_of(items: &[[u32; 3]], m: usize) -> [Paint; 64]
+    requires { ⌜ (m ≤ length (now items)) × (m ≤ 64) ⌝ }
+    ensures { λ r. ⌜ r ≡ gathered (map paintOf (now (items .entry))) m ⌝ }
+{
+    let mut a = none();
+    let mut i: usize = 0;
+    while i < m {
+        let item = items[i];
+        a[i] = Paint {
+            column: item[0],
+            row: item[1],
+            word: item[2],
+        };
+        i += 1;
+    }
+    a
+}
+
+// The paints of a list, all or none.
+#[no_mangle]
+pub extern "C" fn panel_paint_list(
+    header: &[u32; 6],
+    picture: &mut [u32],
+    marks: &mut [u8],
+    items: &[[u32; 3]],
+    stale: &mut u32,
+) -> u32
+    ensures { λ r. ⌜ PaintLists screen3 (headerOf (now (header .entry)))
+        (now (picture .entry)) (now (marks .entry)) (map paintOf (now (items .entry)))
+        (record {
+          picture = now (picture .exit);
+          marks = now (marks .exit);
+          refusal = r;
+          stale = now (stale .exit);
+        }) ⌝ }
+{
+    let session = session_of(header);
+    let n = items.len();
+    let a = paints_of(items, few(n));
+    let painted = session.paint_gathered(picture, marks, a, n);
     *stale = painted.stale;
     painted.refusal
 }

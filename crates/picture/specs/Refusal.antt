@@ -51,5 +51,9 @@ lock = 10
 abbrev pub locked : ℕ
 locked = 11
 
+-- a list of more than 64 paints
+abbrev pub items : ℕ
+items = 12
+
 abbrev pub all : List ℕ
-all = none ∷ side ∷ picture ∷ output ∷ scratch ∷ outside ∷ operand ∷ stale ∷ trailer ∷ long ∷ lock ∷ locked ∷ []
+all = none ∷ side ∷ picture ∷ output ∷ scratch ∷ outside ∷ operand ∷ stale ∷ trailer ∷ long ∷ lock ∷ locked ∷ items ∷ []

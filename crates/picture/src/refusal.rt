@@ -26,9 +26,11 @@ pub const LONG: u32 = 9;
 pub const LOCK: u32 = 10;
 // Another word than the one there, painted inside the lock.
 pub const LOCKED: u32 = 11;
+// A list of more than 64 paints.
+pub const ITEMS: u32 = 12;
 
 // The names here and in the definitions are the same numbers.
-pub fn numbers() -> [u32; 12]
+pub fn numbers() -> [u32; 13]
     ensures { λ r. ⌜ r ≡ all ⌝ }
 {
     [
@@ -44,5 +46,6 @@ pub fn numbers() -> [u32; 12]
         LONG,
         LOCK,
         LOCKED,
+        ITEMS,
     ]
 }

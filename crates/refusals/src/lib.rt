@@ -6,11 +6,15 @@ use header::Header;
 use header::Rectangle;
 use header::locked;
 use header::past;
+use paints::LIMIT;
+use paints::Paint;
 use picture::refusal;
 ghost use mathlib.Core.Path.{_≡_};
-ghost use Prim.Native.Nat.{_≤_};
+ghost use Prim.Native.Nat.{_*_, _≤_};
+ghost use lib.ListN.{length, take};
 ghost use Rattle.picture.specs.Refusal.{none};
-ghost use Rattle.machine.specs.Calls.{sideLong, refusalHeader, refusalAll, refusalPaint, refusalShow, refusalLock};
+ghost use Rattle.machine.specs.Calls.{sideLong, refusalHeader, refusalAll, refusalLent, refusalWord, refusalPaint, refusalList, refusalShow, refusalLock};
+ghost use Rattle.machine.specs.Items.{refusalItems};
 
 // A side past its limit.
 fn side_long(side: u32, w: u32, h: u32) -> bool
@@ -56,7 +60,45 @@ pub fn refuse_all(side: u32, words: usize, header: Header, p: usize, o: usize, m
     refusal::NONE
 }
 
-// Of a paint of word at (column, row), which is lent no output. A word that is there already is not refused, be it locked or not.
+// Of a call that is lent picture and marks, and no output, by the header and their lengths.
+fn refuse_lent(side: u32, header: Header, p: usize, m: usize) -> u32
+    requires { ⌜ side ≤ 2048 ⌝ }
+    ensures { λ r. ⌜ r ≡ refusalLent side header p m none ⌝ }
+{
+    let first = refuse_header(side, header);
+    if first != 0 {
+        return first;
+    }
+    let w = header.w;
+    let h = header.h;
+    let n = (w as usize) * (h as usize);
+    if p < n {
+        return refusal::PICTURE;
+    }
+    if m < n {
+        return refusal::SCRATCH;
+    }
+    refusal::NONE
+}
+
+// Of one word at (column, row). A word that is there already is not refused, be it locked or not.
+fn refuse_word(header: Header, picture: &[u32], column: u32, row: u32, word: u32) -> u32
+    requires { ⌜ (header .w * header .h ≤ 4194304) × (header .w * header .h ≤ length (now picture)) ⌝ }
+    ensures { λ r. ⌜ r ≡ refusalWord header (now (picture .entry)) column row word ⌝ }
+{
+    let w = header.w;
+    let h = header.h;
+    if (column < w) & (row < h) {
+        let old = picture[(row as usize) * (w as usize) + (column as usize)];
+        if (word != old) & locked(header.lock, column, row) {
+            return refusal::LOCKED;
+        }
+        return refusal::NONE;
+    }
+    refusal::OUTSIDE
+}
+
+// Of a paint.
 pub fn refuse_paint(
     side: u32,
     header: Header,
@@ -69,27 +111,50 @@ pub fn refuse_paint(
     requires { ⌜ side ≤ 2048 ⌝ }
     ensures { λ r. ⌜ r ≡ refusalPaint side header (now (picture .entry)) m column row word ⌝ }
 {
-    let first = refuse_header(side, header);
+    let first = refuse_lent(side, header, picture.len(), m);
     if first != 0 {
         return first;
     }
-    let w = header.w;
-    let h = header.h;
-    let n = (w as usize) * (h as usize);
-    if picture.len() < n {
-        return refusal::PICTURE;
-    }
-    if m < n {
-        return refusal::SCRATCH;
-    }
-    if (column < w) & (row < h) {
-        let old = picture[(row as usize) * (w as usize) + (column as usize)];
-        if (word != old) & locked(header.lock, column, row) {
-            return refusal::LOCKED;
+    refuse_word(header, picture, column, row, word)
+}
+
+// Of the first n items of a, by the picture as it stands: the first number that is not 0.
+fn refuse_items(header: Header, picture: &[u32], a: [Paint; 64], n: usize) -> u32
+    requires { ⌜ (header .w * header .h ≤ 4194304) × ((header .w * header .h ≤ length (now picture)) × (n ≤ 64)) ⌝ }
+    ensures { λ r. ⌜ r ≡ refusalItems header (now (picture .entry)) (take n a) ⌝ }
+{
+    let mut i: usize = 0;
+    while i < n {
+        let p = a[i];
+        let first = refuse_word(header, picture, p.column, p.row, p.word);
+        if first != 0 {
+            return first;
         }
-        return refusal::NONE;
+        i += 1;
     }
-    refusal::OUTSIDE
+    refusal::NONE
+}
+
+// Of a list of n items, of which a has the first.
+pub fn refuse_list(
+    side: u32,
+    header: Header,
+    picture: &[u32],
+    m: usize,
+    a: [Paint; 64],
+    n: usize,
+) -> u32
+    requires { ⌜ side ≤ 2048 ⌝ }
+    ensures { λ r. ⌜ r ≡ refusalList side header (length (now (picture .entry))) m n (refusalItems header (now (picture .entry)) (take n a)) ⌝ }
+{
+    let first = refuse_lent(side, header, picture.len(), m);
+    if first != 0 {
+        return first;
+    }
+    if LIMIT < n {
+        return refusal::ITEMS;
+    }
+    refuse_items(header, picture, a, n)
 }
 
 // Of a show of block (bx, by), which looks at the block's mark too.

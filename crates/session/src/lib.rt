@@ -1,7 +1,9 @@
-// A session: a picture that is painted word by word, and its enlarged output, in which a refresh redraws the blocks that
+// A session: a picture that is painted word by word or by lists of words, and its enlarged output, in which a refresh redraws the blocks that
 // a paint made stale; one rectangle of the picture can be locked against paints. `machine/specs/Calls.antt` says what each call leaves and
 // answers, `Machine.antt` beside it is the plain machine, `Demand3.antt` says what holds of every list of calls, and `proofs/Theorem.antt`
 // here proves it of this session.
+use crate::store::store_items;
+use crate::store::store_word;
 use draw::draw_first;
 use header::Header;
 use header::Rectangle;
@@ -10,19 +12,25 @@ use header::no_header;
 use header::with_lock;
 use marks::count_stale;
 use marks::mark_run;
+use paints::Paint;
+use paints::few;
+use paints::gather;
 use picture::place::least;
 use refusals::refuse_all;
+use refusals::refuse_list;
 use refusals::refuse_lock;
 use refusals::refuse_paint;
 use refusals::refuse_show;
-use three::mark_paint;
 use three::read_block;
 ghost use mathlib.Core.Path.{_≡_};
 ghost use mathlib.Core.List.{_++_};
 ghost use Prim.Native.Nat.{_≤_};
 ghost use lib.ListN.{length, drop, replicate};
-ghost use Rattle.machine.specs.Calls.{Opens, Paints, Refreshes, Shows, Locks};
+ghost use Rattle.machine.specs.Calls.{Opens, Paints, PaintLists, Refreshes, Shows, Locks};
+ghost use Rattle.paints.specs.Paints.{listed};
 ghost use Rattle.three.specs.Three.{screen3};
+
+mod store;
 
 // A session is known by its header alone: the buffers are lent to each call. The type says which screen's calls it was opened for.
 pub struct Session {
@@ -39,6 +47,11 @@ pub struct Opened {
 pub struct Painted {
     pub refusal: u32,
     pub changed: u32,
+    pub stale: u32,
+}
+
+pub struct PaintedList {
+    pub refusal: u32,
     pub stale: u32,
 }
 
@@ -150,24 +163,57 @@ impl Session {
                 stale: 0,
             };
         }
-        let w = header.w;
-        let h = header.h;
-        let n = (w as usize) * (h as usize);
-        let at = (row as usize) * (w as usize) + (column as usize);
-        let old = picture[at];
-        if word == old {
-            return Painted {
-                refusal: 0,
-                changed: 0,
-                stale: count_stale(marks, 0, n),
-            };
-        }
-        picture[at] = word;
-        mark_paint(marks, w, h, column, row);
+        let changed = store_word(header, picture, marks, column, row, word);
+        let n = (header.w as usize) * (header.h as usize);
         Painted {
             refusal: 0,
-            changed: 1,
+            changed,
             stale: count_stale(marks, 0, n),
+        }
+    }
+
+    // The paints of a list, all of them in its order or, where one would be refused at its turn, none.
+    pub fn paint_list(self, picture: &mut [u32], marks: &mut [u8], items: &[Paint]) -> PaintedList
+        ensures { λ r. ⌜ PaintLists screen3 (self .header) (now (picture .entry)) (now (marks .entry)) (now (items .entry))
+            (record {
+              picture = now (picture .exit);
+              marks = now (marks .exit);
+              refusal = r .refusal;
+              stale = r .stale;
+            }) ⌝ }
+    {
+        let n = items.len();
+        let a = gather(items, few(n));
+        self.paint_gathered(picture, marks, a, n)
+    }
+
+    // The same for callers without a slice: a has the first 64 of the list's n items. Where n is less, what stands behind them in a is not
+    // looked at.
+    pub fn paint_gathered(
+        self,
+        picture: &mut [u32],
+        marks: &mut [u8],
+        a: [Paint; 64],
+        n: usize,
+    ) -> PaintedList
+        ensures { λ r. ⌜ PaintLists screen3 (self .header) (now (picture .entry)) (now (marks .entry)) (listed n a)
+            (record {
+              picture = now (picture .exit);
+              marks = now (marks .exit);
+              refusal = r .refusal;
+              stale = r .stale;
+            }) ⌝ }
+    {
+        let header = self.header;
+        let refusal = refuse_list(Session::SIDE, header, picture, marks.len(), a, n);
+        if refusal != 0 {
+            return PaintedList { refusal, stale: 0 };
+        }
+        store_items(header, picture, marks, a, n);
+        let blocks = (header.w as usize) * (header.h as usize);
+        PaintedList {
+            refusal: 0,
+            stale: count_stale(marks, 0, blocks),
         }
     }
 

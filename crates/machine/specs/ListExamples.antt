@@ -1,0 +1,99 @@
+-- Paint lists on a picture of three pixels, the last of them locked: what the call leaves and answers, and what the machine does. A block of
+-- this screen is one word, and a paint names its own block alone. Assumes nothing.
+use mathlib.Core.Path.{_≡_, refl}
+use mathlib.Core.Bool.{Bool, true, false, _&&_}
+use mathlib.Core.List.{List, [], _∷_}
+use Prim.Native.Nat.{ℕ, _+_, _*_}
+use lib.Dec.{eqb}
+use lib.ListN.{getD}
+use Rattle.picture.specs.Refusal as refusal
+use Rattle.header.specs.declared.Rectangle.{Rectangle}
+use Rattle.header.specs.Header.{locked, past}
+use Rattle.paints.specs.declared.Paint.{Paint}
+use Rattle.machine.specs.Screen.{Screen}
+use Rattle.machine.specs.Machine.{State, Answer, PaintList, PaintedList, step}
+use Rattle.machine.specs.Calls.{PaintListEnd, paintEnd, paintListEnd}
+
+abbrev small : Screen
+small = record {
+  scale = 1;
+  side = 3;
+  touches = λ column row bx by. eqb column bx && eqb row by;
+  draw = λ w h picture bx by. getD picture (by * w + bx) 0 ∷ [];
+}
+
+abbrev last : Rectangle
+last = record { left = 2; top = 0; width = 1; height = 1 }
+
+-- a word for the pixel of a column
+abbrev at : ℕ → ℕ → Paint
+at column word = record { column = column; row = 0; word = word }
+
+-- no items; two pixels; one position twice, and set back; an equal word in the lock
+abbrev none : List Paint
+none = []
+
+abbrev two : List Paint
+two = at 0 5 ∷ at 1 6 ∷ []
+
+abbrev twice : List Paint
+twice = at 0 5 ∷ at 0 6 ∷ []
+
+abbrev back : List Paint
+back = at 0 5 ∷ at 0 7 ∷ []
+
+abbrev equal : List Paint
+equal = at 0 5 ∷ at 2 9 ∷ []
+
+-- another word in the lock; a position outside before it, and behind it
+abbrev other : List Paint
+other = at 0 5 ∷ at 2 6 ∷ []
+
+abbrev outside : List Paint
+outside = at 0 5 ∷ at 3 6 ∷ at 2 6 ∷ []
+
+abbrev inside : List Paint
+inside = at 0 5 ∷ at 2 6 ∷ at 3 6 ∷ []
+
+-- ---- the call, on a picture and marks with one element more
+abbrev called : List Paint → PaintListEnd
+called items = paintListEnd small (record { w = 3; h = 1; lock = last }) (7 ∷ 8 ∷ 9 ∷ 1 ∷ []) (0 ∷ 0 ∷ 0 ∷ 4 ∷ []) items
+
+abbrev leaves : ℕ → ℕ → ℕ → ℕ → ℕ → PaintListEnd
+leaves a b x y stale = record { picture = a ∷ b ∷ 9 ∷ 1 ∷ []; marks = x ∷ y ∷ 0 ∷ 4 ∷ []; refusal = 0; stale = stale }
+
+abbrev refused : ℕ → PaintListEnd
+refused number = record { picture = 7 ∷ 8 ∷ 9 ∷ 1 ∷ []; marks = 0 ∷ 0 ∷ 0 ∷ 4 ∷ []; refusal = number; stale = 0 }
+
+pub call-lists : (called none ≡ leaves 7 8 0 0 0)
+    × (called two ≡ leaves 5 6 1 1 2)
+    × (called twice ≡ leaves 6 8 1 0 1)
+    × (called back ≡ leaves 7 8 1 0 1)
+    × (called equal ≡ leaves 5 8 1 0 1)
+    × (called other ≡ refused refusal.locked)
+    × (called outside ≡ refused refusal.outside)
+    × (called inside ≡ refused refusal.locked)
+unfolding past locked paintEnd paintListEnd
+call-lists = (refl, refl, refl, refl, refl, refl, refl, refl)
+
+-- ---- the machine
+abbrev start : State
+start = record { picture = 7 ∷ 8 ∷ 9 ∷ []; stale = false ∷ false ∷ false ∷ []; output = 7 ∷ 8 ∷ 9 ∷ []; lock = last }
+
+abbrev done : List Paint → State × Answer
+done items = step small 3 1 (PaintList items) start
+
+-- the state with other words in the first two pixels and these stale
+abbrev with : ℕ → ℕ → List Bool → State
+with a b stale = record { picture = a ∷ b ∷ 9 ∷ []; stale = stale; output = 7 ∷ 8 ∷ 9 ∷ []; lock = last }
+
+pub machine-lists : (done none ≡ (start, PaintedList 0 0))
+    × (done two ≡ (with 5 6 (true ∷ true ∷ false ∷ []), PaintedList 0 2))
+    × (done twice ≡ (with 6 8 (true ∷ false ∷ false ∷ []), PaintedList 0 1))
+    × (done back ≡ (with 7 8 (true ∷ false ∷ false ∷ []), PaintedList 0 1))
+    × (done equal ≡ (with 5 8 (true ∷ false ∷ false ∷ []), PaintedList 0 1))
+    × (done other ≡ (start, PaintedList refusal.locked 0))
+    × (done outside ≡ (start, PaintedList refusal.outside 0))
+    × (done inside ≡ (start, PaintedList refusal.locked 0))
+unfolding past locked
+machine-lists = (refl, refl, refl, refl, refl, refl, refl, refl)

@@ -1,0 +1,57 @@
+-- `panel::sessions::panel_paint_list` meets its contract. Assumes nothing.
+use mathlib.Core.Path.{subst, sym}
+use mathlib.Core.List.{map}
+use lib.ListN.{length, length-map}
+use borrow.Author.Needs.{needs}
+use Rattle.header.specs.declared.Header.{Header}
+use Rattle.machine.specs.Calls.{PaintListEnd, PaintLists}
+use Rattle.machine.proofs.ListEnds.{list-gathered}
+use Rattle.three.specs.Three.{screen3}
+use Rattle.panel.specs.Item.{paintOf}
+use Rattle.panel.proofs.sessions.panel_paint_list.Statement.{statement}
+use Rattle.panel.proofs.sessions.panel_paint_list.Tie as tie
+
+session-of-requires : tie.Need-session-of-requires
+session-of-requires c κs = search needs
+
+few-requires : tie.Need-few-requires
+few-requires c κs = search needs
+
+paints-of-requires : tie.Need-paints-of-requires
+paints-of-requires c κs = search needs
+
+paint-gathered-requires : tie.Need-paint-gathered-requires
+paint-gathered-requires c κs = search needs
+
+same-length : tie.Need-same-length
+same-length c = search needs
+
+same-length-2 : tie.Need-same-length-2
+same-length-2 c = search needs
+
+returns : tie.Need-returns
+returns c =
+    let a = c .before .before .before .before .before .before .before .before .before .before .before .before .args in
+    let p = c .before .before .before .before .paint-gathered in
+    let end : PaintListEnd = record {
+      picture = p .last .1 .0;
+      marks = p .last .1 .1 .0;
+      refusal = p .result .refusal;
+      stale = p .result .stale;
+    } in
+    let items = map paintOf (a .items .now) in
+    subst (λ (k : Header). PaintLists screen3 k (a .picture .now) (a .marks .now) items end) (c .before .before .before .before .before .before .before .before .before .session-of .ensures)
+    (list-gathered screen3 _ (a .picture .now) (a .marks .now) items (length (a .items .now)) (c .before .before .before .before .before .before .before .before .few .result) (c .before .before .before .before .before .before .before .paints-of .result) end
+    (sym (length-map (a .items .now) paintOf)) (c .before .before .before .before .before .before .before .before .few .ensures .0) (c .before .before .before .before .before .before .before .paints-of .ensures) (p .ensures))
+
+pub panel-paint-list-spec : {M : Type 1} → statement M
+panel-paint-list-spec =
+    tie.close
+    (tie.spec
+    session-of-requires
+    few-requires
+    paints-of-requires
+    paint-gathered-requires
+    same-length
+    same-length-2
+    returns)
