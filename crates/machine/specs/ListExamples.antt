@@ -1,18 +1,21 @@
--- Paint lists on a picture of three pixels, the last of them locked: what the call leaves and answers, and what the machine does. A block of
--- this screen is one word, and a paint names its own block alone. Assumes nothing.
+-- Paint lists on a picture of three pixels, the second block stale and the last pixel locked: what the call leaves and answers, what the
+-- machine does, and what a loop over the items finds. A block of this screen is one word, and a paint names its own block alone. Assumes
+-- nothing.
 use mathlib.Core.Path.{_≡_, refl}
-use mathlib.Core.Bool.{Bool, true, false, _&&_}
+use mathlib.Core.Bool.{true, false, _&&_}
 use mathlib.Core.List.{List, [], _∷_}
 use Prim.Native.Nat.{ℕ, _+_, _*_}
 use lib.Dec.{eqb}
 use lib.ListN.{getD}
 use Rattle.picture.specs.Refusal as refusal
 use Rattle.header.specs.declared.Rectangle.{Rectangle}
+use Rattle.header.specs.declared.Header.{Header}
 use Rattle.header.specs.Header.{locked, past}
 use Rattle.paints.specs.declared.Paint.{Paint}
 use Rattle.machine.specs.Screen.{Screen}
 use Rattle.machine.specs.Machine.{State, Answer, PaintList, PaintedList, step}
 use Rattle.machine.specs.Calls.{PaintListEnd, paintEnd, paintListEnd}
+use Rattle.machine.specs.Items.{refusalItems}
 
 abbrev small : Screen
 small = record {
@@ -24,6 +27,9 @@ small = record {
 
 abbrev last : Rectangle
 last = record { left = 2; top = 0; width = 1; height = 1 }
+
+abbrev header : Header
+header = record { w = 3; h = 1; lock = last }
 
 -- a word for the pixel of a column
 abbrev at : ℕ → ℕ → Paint
@@ -57,19 +63,19 @@ inside = at 0 5 ∷ at 2 6 ∷ at 3 6 ∷ []
 
 -- ---- the call, on a picture and marks with one element more
 abbrev called : List Paint → PaintListEnd
-called items = paintListEnd small (record { w = 3; h = 1; lock = last }) (7 ∷ 8 ∷ 9 ∷ 1 ∷ []) (0 ∷ 0 ∷ 0 ∷ 4 ∷ []) items
+called items = paintListEnd small header (7 ∷ 8 ∷ 9 ∷ 1 ∷ []) (0 ∷ 3 ∷ 0 ∷ 4 ∷ []) items
 
 abbrev leaves : ℕ → ℕ → ℕ → ℕ → ℕ → PaintListEnd
 leaves a b x y stale = record { picture = a ∷ b ∷ 9 ∷ 1 ∷ []; marks = x ∷ y ∷ 0 ∷ 4 ∷ []; refusal = 0; stale = stale }
 
 abbrev refused : ℕ → PaintListEnd
-refused number = record { picture = 7 ∷ 8 ∷ 9 ∷ 1 ∷ []; marks = 0 ∷ 0 ∷ 0 ∷ 4 ∷ []; refusal = number; stale = 0 }
+refused number = record { picture = 7 ∷ 8 ∷ 9 ∷ 1 ∷ []; marks = 0 ∷ 3 ∷ 0 ∷ 4 ∷ []; refusal = number; stale = 0 }
 
-pub call-lists : (called none ≡ leaves 7 8 0 0 0)
+pub call-lists : (called none ≡ leaves 7 8 0 3 1)
     × (called two ≡ leaves 5 6 1 1 2)
-    × (called twice ≡ leaves 6 8 1 0 1)
-    × (called back ≡ leaves 7 8 1 0 1)
-    × (called equal ≡ leaves 5 8 1 0 1)
+    × (called twice ≡ leaves 6 8 1 3 2)
+    × (called back ≡ leaves 7 8 1 3 2)
+    × (called equal ≡ leaves 5 8 1 3 2)
     × (called other ≡ refused refusal.locked)
     × (called outside ≡ refused refusal.outside)
     × (called inside ≡ refused refusal.locked)
@@ -78,22 +84,29 @@ call-lists = (refl, refl, refl, refl, refl, refl, refl, refl)
 
 -- ---- the machine
 abbrev start : State
-start = record { picture = 7 ∷ 8 ∷ 9 ∷ []; stale = false ∷ false ∷ false ∷ []; output = 7 ∷ 8 ∷ 9 ∷ []; lock = last }
+start = record { picture = 7 ∷ 8 ∷ 9 ∷ []; stale = false ∷ true ∷ false ∷ []; output = 7 ∷ 8 ∷ 9 ∷ []; lock = last }
 
 abbrev done : List Paint → State × Answer
 done items = step small 3 1 (PaintList items) start
 
--- the state with other words in the first two pixels and these stale
-abbrev with : ℕ → ℕ → List Bool → State
-with a b stale = record { picture = a ∷ b ∷ 9 ∷ []; stale = stale; output = 7 ∷ 8 ∷ 9 ∷ []; lock = last }
+-- the state with other words in the first two pixels and their blocks stale
+abbrev with : ℕ → ℕ → State
+with a b = record { picture = a ∷ b ∷ 9 ∷ []; stale = true ∷ true ∷ false ∷ []; output = 7 ∷ 8 ∷ 9 ∷ []; lock = last }
 
-pub machine-lists : (done none ≡ (start, PaintedList 0 0))
-    × (done two ≡ (with 5 6 (true ∷ true ∷ false ∷ []), PaintedList 0 2))
-    × (done twice ≡ (with 6 8 (true ∷ false ∷ false ∷ []), PaintedList 0 1))
-    × (done back ≡ (with 7 8 (true ∷ false ∷ false ∷ []), PaintedList 0 1))
-    × (done equal ≡ (with 5 8 (true ∷ false ∷ false ∷ []), PaintedList 0 1))
+pub machine-lists : (done none ≡ (start, PaintedList 0 1))
+    × (done two ≡ (with 5 6, PaintedList 0 2))
+    × (done twice ≡ (with 6 8, PaintedList 0 2))
+    × (done back ≡ (with 7 8, PaintedList 0 2))
+    × (done equal ≡ (with 5 8, PaintedList 0 2))
     × (done other ≡ (start, PaintedList refusal.locked 0))
     × (done outside ≡ (start, PaintedList refusal.outside 0))
     × (done inside ≡ (start, PaintedList refusal.locked 0))
 unfolding past locked
 machine-lists = (refl, refl, refl, refl, refl, refl, refl, refl)
+
+-- ---- a loop over the items
+pub found-lists : (refusalItems header (7 ∷ 8 ∷ 9 ∷ []) equal ≡ refusal.none)
+    × (refusalItems header (7 ∷ 8 ∷ 9 ∷ []) outside ≡ refusal.outside)
+    × (refusalItems header (7 ∷ 8 ∷ 9 ∷ []) inside ≡ refusal.locked)
+unfolding locked
+found-lists = (refl, refl, refl)
