@@ -1,5 +1,5 @@
-// The calls of a session. The header is an array of six numbers: w, h, and left, top, width and height of the lock. A paint of a list is one
-// of three: column, row and word.
+// The calls of a session. The header is an array of six numbers: w, h, and left, top, width and height of the lock. A paint of a list is
+// one of three: column, row and word.
 use header::Header;
 use header::Rectangle;
 use paints::Paint;

@@ -13,7 +13,8 @@ ghost use mathlib.Core.Path.{_≡_};
 ghost use Prim.Native.Nat.{_*_, _≤_};
 ghost use lib.ListN.{length, take};
 ghost use Rattle.picture.specs.Refusal.{none};
-ghost use Rattle.machine.specs.Calls.{sideLong, refusalHeader, refusalAll, refusalLent, refusalWord, refusalPaint, refusalList, refusalShow, refusalLock};
+ghost use Rattle.machine.specs.Calls.{sideLong, refusalHeader, refusalAll, refusalLent, refusalWord, refusalPaint, refusalList};
+ghost use Rattle.machine.specs.Calls.{refusalShow, refusalLock};
 ghost use Rattle.machine.specs.Items.{refusalItems};
 
 // A side past its limit.
@@ -145,7 +146,8 @@ pub fn refuse_list(
     n: usize,
 ) -> u32
     requires { ⌜ side ≤ 2048 ⌝ }
-    ensures { λ r. ⌜ r ≡ refusalList side header (length (now (picture .entry))) m n (refusalItems header (now (picture .entry)) (take n a)) ⌝ }
+    ensures { λ r. ⌜ r ≡ refusalList side header (length (now (picture .entry))) m n
+        (refusalItems header (now (picture .entry)) (take n a)) ⌝ }
 {
     let first = refuse_lent(side, header, picture.len(), m);
     if first != 0 {

@@ -1,7 +1,7 @@
-// A session: a picture that is painted word by word or by lists of words, and its enlarged output, in which a refresh redraws the blocks that
-// a paint made stale; one rectangle of the picture can be locked against paints. `machine/specs/Calls.antt` says what each call leaves and
-// answers, `Machine.antt` beside it is the plain machine, `Demand3.antt` says what holds of every list of calls, and `proofs/Theorem.antt`
-// here proves it of this session.
+// A session: a picture that is painted word by word or by lists of words, and its enlarged output, in which a refresh redraws the blocks
+// that a paint made stale; one rectangle of the picture can be locked against paints. `machine/specs/Calls.antt` says what each call leaves
+// and answers, `Machine.antt` beside it is the plain machine, `Demand3.antt` says what holds of every list of calls, and
+// `proofs/Theorem.antt` here proves it of this session.
 use crate::store::store_items;
 use crate::store::store_word;
 use draw::draw_first;

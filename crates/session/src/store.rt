@@ -20,7 +20,8 @@ pub fn store_word(
     word: u32,
 ) -> u32
     requires { ⌜ refusalPaint (screen3 .side) header (now picture) (length (now marks)) column row word ≡ 0 ⌝ }
-    ensures { λ r. ⌜ StoresWord screen3 header (now (picture .entry)) (now (marks .entry)) column row word (now (picture .exit)) (now (marks .exit)) r ⌝ }
+    ensures { λ r. ⌜ StoresWord screen3 header (now (picture .entry)) (now (marks .entry)) column row word
+        (now (picture .exit)) (now (marks .exit)) r ⌝ }
 {
     let at = (row as usize) * (header.w as usize) + (column as usize);
     let old = picture[at];
@@ -35,7 +36,8 @@ pub fn store_word(
 // The first n items of a, one after another.
 pub fn store_items(header: Header, picture: &mut [u32], marks: &mut [u8], a: [Paint; 64], n: usize)
     requires { ⌜ (n ≤ 64) × (itemsEnd screen3 header (take n a) (now picture) (now marks) .refusal ≡ 0) ⌝ }
-    ensures { λ _. ⌜ StoresItems screen3 header (now (picture .entry)) (now (marks .entry)) (take n a) (now (picture .exit)) (now (marks .exit)) ⌝ }
+    ensures { λ _. ⌜ StoresItems screen3 header (now (picture .entry)) (now (marks .entry)) (take n a)
+        (now (picture .exit)) (now (marks .exit)) ⌝ }
 {
     let mut i: usize = 0;
     while i < n {

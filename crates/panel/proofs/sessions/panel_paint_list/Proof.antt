@@ -40,9 +40,12 @@ returns c =
       stale = p .result .stale;
     } in
     let items = map paintOf (a .items .now) in
-    subst (λ (k : Header). PaintLists screen3 k (a .picture .now) (a .marks .now) items end) (c .before .before .before .before .before .before .before .before .before .session-of .ensures)
-    (list-gathered screen3 _ (a .picture .now) (a .marks .now) items (length (a .items .now)) (c .before .before .before .before .before .before .before .before .few .result) (c .before .before .before .before .before .before .before .paints-of .result) end
-    (sym (length-map (a .items .now) paintOf)) (c .before .before .before .before .before .before .before .before .few .ensures .0) (c .before .before .before .before .before .before .before .paints-of .ensures) (p .ensures))
+    let few = c .before .before .before .before .before .before .before .before .few in
+    let got = c .before .before .before .before .before .before .before .paints-of in
+    let same = list-gathered screen3 _ (a .picture .now) (a .marks .now) items (length (a .items .now)) (few .result) (got .result) end
+    (sym (length-map (a .items .now) paintOf)) (few .ensures .0) (got .ensures) (p .ensures) in
+    subst (λ (k : Header). PaintLists screen3 k (a .picture .now) (a .marks .now) items end)
+    (c .before .before .before .before .before .before .before .before .before .session-of .ensures) same
 
 pub panel-paint-list-spec : {M : Type 1} → statement M
 panel-paint-list-spec =
