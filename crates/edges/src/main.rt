@@ -1,4 +1,4 @@
-// Sessions at the edges of docs/RULES.md: each line is what a call answered.
+// Sessions at the edges of docs/RULES.md: each line is what a call answered, or words of the picture after it.
 use header::Header;
 use header::Rectangle;
 use libc::STDOUT_FILENO;

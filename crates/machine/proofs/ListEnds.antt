@@ -102,17 +102,15 @@ module _ (S : Screen) (header : Header) where
 
     module _ (z : f ≡ 0) where
       -- what a list that is not refused was lent
-      pub lent-list : LentList S (header .w) (header .h) (length p) (length m) n
+      pub lent-list : LentList S (header .w) (header .h) (length m) n
       lent-list =
           let w = header .w in
           let h = header .h in
           let q = header-lent S header _ (sym e ∙ z) in
-          let for-p = unmet (ltb (length p) (w * h)) 1 _ (q .2) in
-          let for-m = unmet (ltb (length m) (w * h)) 3 _ (for-p .1) in
+          let for-m = unmet (ltb (length m) (w * h)) 3 _ (unmet (ltb (length p) (w * h)) 1 _ (q .2) .1) in
           record {
             wide = q .0;
             high = q .1;
-            for-picture = ltb-false (length p) (w * h) (for-p .0);
             for-marks = ltb-false (length m) (w * h) (for-m .0);
             few = ltb-false 64 n (unmet (ltb 64 n) 11 _ (for-m .1) .0);
           }

@@ -22,11 +22,10 @@ module _ (S : Screen) (w h : ℕ) where
     pub down : row < h
     pub at : row * w + column < w * h
 
-  -- n items of a list
-  pub record LentList (p m n : ℕ) : Type 0 where
+  -- a list of n items; of its picture each item's single paint is said
+  pub record LentList (m n : ℕ) : Type 0 where
     pub wide : w ≤ S .side
     pub high : h ≤ S .side
-    pub for-picture : w * h ≤ p
     pub for-marks : w * h ≤ m
     pub few : n ≤ limit
 

@@ -27,7 +27,7 @@ returns c =
 abbrev Passed : tie.Start → Type 0
 Passed s =
     let a = s .args in
-    LentList screen3 (a .self .header .w) (a .self .header .h) (length (a .picture .now)) (length (a .marks .now)) (a .n)
+    LentList screen3 (a .self .header .w) (a .self .header .h) (length (a .marks .now)) (a .n)
     × (itemsEnd screen3 (a .self .header) (take (a .n) (a .a)) (a .picture .now) (a .marks .now) .refusal ≡ 0)
 
 -- the array has 64 items
