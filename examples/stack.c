@@ -2,8 +2,8 @@
  * Holds the stack that each call takes to PANEL_STACK_BYTES: stack PAGE [--figures], PAGE being a page file.
  * A call is made on a thread whose stack was filled with one byte value before; from the lowest byte on that has
  * another value afterwards, the stack was used. What an empty call uses in the same way is taken off. The pictures are
- * larger than a tile of 16 by 12 blocks and no multiple of it: the page, repeated; noise; one colour. --figures prints
- * what each call takes at most.
+ * larger than a tile of 16 by 12 blocks and no multiple of it: the page, repeated; noise; one colour. Each is enlarged
+ * at every kind of clarity. --figures prints what each call takes at most.
  */
 #define _POSIX_C_SOURCE 200809L
 
@@ -24,6 +24,10 @@ static uint32_t middle[PANEL_MIDDLE9_LEN(W, H)];
 static float singles[PANEL_SINGLES9_LEN(W, H)];
 static uint8_t bytes[PANEL_BYTES9_LEN(W, H)];
 static uint32_t header[PANEL_HEADER_LEN];
+
+/* The clarity at which the calls are made, with a threshold of 0.3 where it has one. */
+static uint32_t clarity;
+static const float threshold = 0.3f;
 
 static uint8_t file[FILE_BYTES];
 static size_t file_len;
@@ -46,8 +50,8 @@ static void call_open(void)
 {
     uint32_t stale;
 
-    require(panel_open(W, H, picture, PANEL_PICTURE_LEN(W, H), output, PANEL_OUTPUT_LEN(W, H), marks,
-                       PANEL_MARKS_LEN(W, H), header, &stale) == PANEL_NONE, "open was refused");
+    require(panel_open(W, H, clarity, threshold, picture, PANEL_PICTURE_LEN(W, H), output, PANEL_OUTPUT_LEN(W, H),
+                       marks, PANEL_MARKS_LEN(W, H), header, &stale) == PANEL_NONE, "open was refused");
 }
 
 static void call_refresh(uint32_t n)
@@ -98,14 +102,15 @@ static void call_lock(void)
 
 static void call_scale(void)
 {
-    require(panel_scale(W, H, picture, PANEL_PICTURE_LEN(W, H), output, PANEL_OUTPUT_LEN(W, H), singles,
-                        PANEL_SINGLES_LEN(W, H), bytes, PANEL_BYTES_LEN(W, H)) == PANEL_NONE, "scale was refused");
+    require(panel_scale(W, H, clarity, threshold, picture, PANEL_PICTURE_LEN(W, H), output, PANEL_OUTPUT_LEN(W, H),
+                        singles, PANEL_SINGLES_LEN(W, H), bytes, PANEL_BYTES_LEN(W, H)) == PANEL_NONE,
+            "scale was refused");
 }
 
 static void call_scale9x(void)
 {
-    require(panel_scale9x(W, H, picture, PANEL_PICTURE_LEN(W, H), output9, PANEL_OUTPUT9_LEN(W, H), middle,
-                          PANEL_MIDDLE9_LEN(W, H), singles, PANEL_SINGLES9_LEN(W, H), bytes,
+    require(panel_scale9x(W, H, clarity, threshold, picture, PANEL_PICTURE_LEN(W, H), output9, PANEL_OUTPUT9_LEN(W, H),
+                          middle, PANEL_MIDDLE9_LEN(W, H), singles, PANEL_SINGLES9_LEN(W, H), bytes,
                           PANEL_BYTES9_LEN(W, H)) == PANEL_NONE, "scale9x was refused");
 }
 
@@ -220,18 +225,24 @@ static void read_file(const char *path)
     require(page_w != 0 && page_h != 0, "the page is empty");
 }
 
-/* The most that each call takes, on any of the pictures. */
+static void measure_calls(size_t most[CALLS])
+{
+    for (size_t i = 0; i < CALLS; i++) {
+        size_t taken = taken_by(calls[i].call);
+
+        most[i] = taken > most[i] ? taken : most[i];
+    }
+}
+
+/* The most that each call takes, on any of the pictures at any clarity. */
 static void measure(size_t most[CALLS])
 {
-    for (int kind = 0; kind < 3; kind++) {
-        for (size_t i = 0; i < PANEL_PICTURE_LEN(W, H); i++)
-            picture[i] = word_at(kind, i % W, i / W);
-        for (size_t i = 0; i < CALLS; i++) {
-            size_t taken = taken_by(calls[i].call);
-
-            most[i] = taken > most[i] ? taken : most[i];
+    for (int kind = 0; kind < 3; kind++)
+        for (clarity = PANEL_STANDARD; clarity <= PANEL_GATED; clarity++) {
+            for (size_t i = 0; i < PANEL_PICTURE_LEN(W, H); i++)
+                picture[i] = word_at(kind, i % W, i / W);
+            measure_calls(most);
         }
-    }
 }
 
 int main(int argc, char **argv)

@@ -28,8 +28,20 @@
  *  10  a rectangle of width and height above 0 reaches past the picture, given to panel_lock or standing in a header
  *  11  a paint of another word inside the lock
  *  12  a list of more than 64 paints
+ *  13  a clarity above 2, or of 1 or 2 with a threshold that is not above 0, is above 1 or is not a number, given to a
+ *      call or standing in a header
  *
- * Where several hold, the first in the order 1, 10, 2, 3, 4, 12, 5, 7, 11 is returned (panel_read_page: 8, 1, 2).
+ * Where several hold, the first in the order 1, 10, 2, 3, 4, 13, 12, 5, 7, 11 is returned (panel_read_page: 8, 1, 2).
+ *
+ * Clarity. The corner of a pixel is smoothed by its weight. That is 0 where the edge distance, the one between the two
+ * neighbours at this corner, is 0.5 or more. Some panels want less smoothing, so a setting of clarity is chosen for a
+ * whole picture and for a session: a number, and a float, its threshold.
+ *   PANEL_STANDARD   0.5; the float is not looked at
+ *   PANEL_THRESHOLD  the float, above 0 and at most 1, in every place of 0.5 in the weight; where it is 0.5, words,
+ *                    singles and bytes are those of PANEL_STANDARD
+ *   PANEL_GATED      the same, and the weight is 0 too unless 2 times the edge distance is below the sum of the pixel's
+ *                    distances to these two neighbours, product and sum in single precision
+ * The smallest float above 0, a subnormal one, is lawful; 0, -0.0, an infinity and a NaN are not.
  *
  * Machine. The library is for x86-64 with SSE2, called by the System V ABI, size_t having 64 bits. Its code is
  * position independent. The only symbols that it needs from outside are memcpy and memset. The toolchain makes no code
@@ -63,8 +75,8 @@ extern "C" {
 #endif
 
 /* The version of this header: major * 10000 + minor * 100 + patch, and the three with points between. */
-#define PANEL_VERSION 500u
-#define PANEL_VERSION_STRING "0.5.0"
+#define PANEL_VERSION 600u
+#define PANEL_VERSION_STRING "0.6.0"
 
 /*
  * No call takes more bytes of stack than this. It is measured, not proved: examples/stack.c, with what memcpy and memset
@@ -84,6 +96,11 @@ extern "C" {
 #define PANEL_LOCK 10u     /* a locked rectangle reaches past the picture */
 #define PANEL_LOCKED 11u   /* the position is locked, and the word is another */
 #define PANEL_ITEMS 12u    /* the list has more than 64 paints */
+#define PANEL_CLARITY 13u  /* the clarity is none, or its threshold not above 0 and at most 1 */
+
+#define PANEL_STANDARD 0u  /* clarity: 0.5 */
+#define PANEL_THRESHOLD 1u /* clarity: a threshold in the place of 0.5 */
+#define PANEL_GATED 2u     /* clarity: a threshold behind a gate */
 
 #define PANEL_SIDE_3X 2048u /* the largest side of panel_scale, of a session and of a page */
 #define PANEL_SIDE_9X 682u  /* the largest side of panel_scale9x */
@@ -101,15 +118,17 @@ extern "C" {
 #define PANEL_SINGLES9_LEN(w, h) ((size_t)72 * PANEL_PICTURE_LEN(w, h))
 #define PANEL_BYTES9_LEN(w, h) ((size_t)72 * PANEL_PICTURE_LEN(w, h))
 
-#define PANEL_HEADER_LEN 6u   /* the numbers of a session's header */
-#define PANEL_HEADER_W 0      /* the place of w in it */
-#define PANEL_HEADER_H 1      /* the place of h in it */
-#define PANEL_HEADER_LEFT 2   /* the place of the lock's first column in it */
-#define PANEL_HEADER_TOP 3    /* the place of the lock's first row in it */
-#define PANEL_HEADER_WIDTH 4  /* the place of the lock's columns in it */
-#define PANEL_HEADER_HEIGHT 5 /* the place of the lock's rows in it */
-#define PANEL_BLOCK_WORDS 9u  /* the words of a block */
-#define PANEL_LIST_LEN 64u    /* the most items of a list of paints */
+#define PANEL_HEADER_LEN 8u      /* the numbers of a session's header */
+#define PANEL_HEADER_W 0         /* the place of w in it */
+#define PANEL_HEADER_H 1         /* the place of h in it */
+#define PANEL_HEADER_LEFT 2      /* the place of the lock's first column in it */
+#define PANEL_HEADER_TOP 3       /* the place of the lock's first row in it */
+#define PANEL_HEADER_WIDTH 4     /* the place of the lock's columns in it */
+#define PANEL_HEADER_HEIGHT 5    /* the place of the lock's rows in it */
+#define PANEL_HEADER_CLARITY 6   /* the place of the clarity in it */
+#define PANEL_HEADER_THRESHOLD 7 /* the place of the threshold's bit pattern in it */
+#define PANEL_BLOCK_WORDS 9u     /* the words of a block */
+#define PANEL_LIST_LEN 64u       /* the most items of a list of paints */
 
 /*
  * The version of the library, to be held to PANEL_VERSION: a program that was compiled with another header's numbers
@@ -133,31 +152,35 @@ float panel_distance(uint32_t p, uint32_t q);
 /*
  * Enlarges a whole picture three times.
  *   w, h     at most 2048 each
+ *   clarity  PANEL_STANDARD, PANEL_THRESHOLD or PANEL_GATED, with its threshold
  *   picture  wh words, read
  *   output   9wh words, written: 3h rows of 3w
  *   singles  8wh floats, written: first four distances a pixel (to top-left, top, top-right, right), then four
  *            corner weights a pixel (top-left, top-right, bottom-right, bottom-left), pixels in row order
  *   bytes    8wh bytes, written: first four junction numbers a pixel (0 to 15), then four tag numbers (0 to 80)
  * What singles and bytes held before does not matter; what they hold afterwards may be ignored.
- * Refusals, in this order: 1 w or h past 2048; 2; 3; 4 singles or bytes. With w or h of 0 nothing is written.
+ * Refusals, in this order: 1 w or h past 2048; 2; 3; 4 singles or bytes; 13. With w or h of 0 nothing is written.
  */
 uint32_t panel_scale(uint32_t w, uint32_t h,
+                     uint32_t clarity, float threshold,
                      const uint32_t *picture, size_t picture_len,
                      uint32_t *output, size_t output_len,
                      float *singles, size_t singles_len,
                      uint8_t *bytes, size_t bytes_len);
 
 /*
- * Enlarges a whole picture nine times: three times, and the result three times again.
+ * Enlarges a whole picture nine times: three times, and the result three times again, both at the same clarity.
  *   w, h     at most 682 each
+ *   clarity  PANEL_STANDARD, PANEL_THRESHOLD or PANEL_GATED, with its threshold
  *   picture  wh words, read
  *   output   81wh words, written: 9h rows of 9w
  *   middle   9wh words, written: the picture enlarged three times
  *   singles  72wh floats, written: as in panel_scale, of the second enlargement
  *   bytes    72wh bytes, written: as in panel_scale, of the second enlargement
- * Refusals, in this order: 1 w or h past 682; 2; 3; 4 middle, singles or bytes. With w or h of 0 nothing is written.
+ * Refusals, in this order: 1 w or h past 682; 2; 3; 4 middle, singles or bytes; 13. With w or h of 0 nothing is written.
  */
 uint32_t panel_scale9x(uint32_t w, uint32_t h,
+                       uint32_t clarity, float threshold,
                        const uint32_t *picture, size_t picture_len,
                        uint32_t *output, size_t output_len,
                        uint32_t *middle, size_t middle_len,
@@ -168,29 +191,34 @@ uint32_t panel_scale9x(uint32_t w, uint32_t h,
  * A session keeps an output three times the size of a picture that changes, and draws anew only what a change can
  * have altered. It is a header and three buffers, which the caller keeps from call to call and writes by these
  * calls alone:
- *   header   six numbers, w, h and the lock's left, top, width and height, as panel_open or panel_lock answered them
- *            last without a refusal; lent to every later call
+ *   header   eight numbers, w, h, the lock's left, top, width and height, the clarity and the bit pattern of its
+ *            threshold, as panel_open or panel_lock answered them last without a refusal; lent to every later call
  *   picture  wh words
  *   output   9wh words: 3h rows of 3w. The nine words of the pixel (bx, by) are block (bx, by)
  *   marks    wh bytes, one a block in row order: 0 where the block shows the present picture, else it is stale
  * Whatever paints and refreshes were made, a block that is not stale shows what panel_scale draws there for the
- * present picture. A stale block keeps the words of its last drawing.
+ * present picture at the session's clarity. A stale block keeps the words of its last drawing.
  * The lock is a rectangle of the picture in which no paint changes a word. With a width or a height of 0 it locks
  * nothing, whatever the other three numbers are. It does not keep the caller from writing the picture himself.
- * A header is checked like fresh sizes: a call with a header that no call answered is refused or safe.
+ * A header is checked like fresh sizes: a call with a header that no call answered is refused or safe. Its clarity is
+ * lawful where it is PANEL_STANDARD, the pattern then not being looked at, or where it is one of the other two and the
+ * pattern is 1 to 0x3f800000, which are the floats above 0 and at most 1.
  */
 
 /*
  * Opens a session on a picture. No block is drawn yet.
  *   w, h     at most 2048 each
+ *   clarity  PANEL_STANDARD, PANEL_THRESHOLD or PANEL_GATED, with its threshold; the session keeps them
  *   picture  wh words, read
  *   output   9wh words, written: 0
  *   marks    wh bytes, written: 1, every block is stale
- *   header   the session's header: w, h and four 0s, nothing is locked; six 0s beside a refusal
+ *   header   the session's header: w, h, four 0s, nothing is locked, the clarity, and the threshold's bit pattern, which
+ *            is 0 at PANEL_STANDARD; eight 0s beside a refusal
  *   *stale   the number of stale blocks, wh; 0 beside a refusal
- * Refusals, in this order: 1 w or h past 2048; 2; 3; 4 marks.
+ * Refusals, in this order: 1 w or h past 2048; 2; 3; 4 marks; 13.
  */
 uint32_t panel_open(uint32_t w, uint32_t h,
+                    uint32_t clarity, float threshold,
                     const uint32_t *picture, size_t picture_len,
                     uint32_t *output, size_t output_len,
                     uint8_t *marks, size_t marks_len,
@@ -200,10 +228,11 @@ uint32_t panel_open(uint32_t w, uint32_t h,
  * Locks a rectangle, in place of the one that was locked, or with a width or height of 0 nothing. Only the header is
  * lent; the session's buffers have no part in it.
  *   header   the session's header, read
- *   locked   the header with the lock as given, to be lent to later calls in place of header; six 0s beside a refusal,
- *            where the header before stays in force. It is another array than header
+ *   locked   the header with the lock as given, to be lent to later calls in place of header; eight 0s beside a refusal,
+ *            where the header before stays in force. It is another array than header. Clarity and pattern are header's;
+ *            at PANEL_STANDARD the pattern answered is 0
  * Refusals, in this order: 1 the header's w or h past 2048; 10 the header's lock, or the rectangle given, reaches past
- * the picture: left + width above w or top + height above h, the sums taken without wrapping.
+ * the picture: left + width above w or top + height above h, the sums taken without wrapping; 13 the header's clarity.
  */
 uint32_t panel_lock(const uint32_t header[PANEL_HEADER_LEN],
                     uint32_t left, uint32_t top, uint32_t width, uint32_t height,
@@ -217,8 +246,9 @@ uint32_t panel_lock(const uint32_t header[PANEL_HEADER_LEN],
  *             else nothing
  *   *changed  1 where the word was another, 0 where it was equal; 0 beside a refusal
  *   *stale    the number of stale blocks after the call; 0 beside a refusal
- * Refusals, in this order: 1 the header's w or h past 2048; 10 the header's lock past the picture; 2; 4 marks; 5
- * (column, row) outside the picture; 11 the position is locked and the word another: an equal one is not refused.
+ * Refusals, in this order: 1 the header's w or h past 2048; 10 the header's lock past the picture; 2; 4 marks; 13 the
+ * header's clarity; 5 (column, row) outside the picture; 11 the position is locked and the word another: an equal one is
+ * not refused.
  */
 uint32_t panel_paint(const uint32_t header[PANEL_HEADER_LEN],
                      uint32_t *picture, size_t picture_len,
@@ -244,8 +274,8 @@ typedef char panel_item_has_12_bytes[sizeof(struct panel_item) == 12 ? 1 : -1];
  *   marks    1 is written at the blocks that the changed words can alter, as by panel_paint
  *   items    items_len items, read; items_len counts items, not numbers, and may be 0
  *   *stale   the number of stale blocks after the call; 0 beside a refusal
- * Refusals, in this order: 1 the header's w or h past 2048; 10 the header's lock past the picture; 2; 4 marks; 12 more
- * than 64 items; then 5 or 11, whichever the first item that is refused has.
+ * Refusals, in this order: 1 the header's w or h past 2048; 10 the header's lock past the picture; 2; 4 marks; 13 the
+ * header's clarity; 12 more than 64 items; then 5 or 11, whichever the first item that is refused has.
  */
 uint32_t panel_paint_list(const uint32_t header[PANEL_HEADER_LEN],
                           uint32_t *picture, size_t picture_len,
@@ -254,13 +284,14 @@ uint32_t panel_paint_list(const uint32_t header[PANEL_HEADER_LEN],
                           uint32_t *stale);
 
 /*
- * Draws the first n stale blocks in row order, or all of them where there are fewer.
+ * Draws the first n stale blocks in row order, or all of them where there are fewer, at the header's clarity.
  *   picture  read
  *   output   nine words are written for each block drawn
  *   marks    0 is written for each block drawn
  *   *drawn   the number of blocks drawn; 0 beside a refusal
  *   *left    the number of blocks still stale; 0 beside a refusal
- * Refusals, in this order: 1 the header's w or h past 2048; 10 the header's lock past the picture; 2; 3; 4 marks.
+ * Refusals, in this order: 1 the header's w or h past 2048; 10 the header's lock past the picture; 2; 3; 4 marks; 13 the
+ * header's clarity.
  */
 uint32_t panel_refresh(const uint32_t header[PANEL_HEADER_LEN],
                        const uint32_t *picture, size_t picture_len,
@@ -271,8 +302,8 @@ uint32_t panel_refresh(const uint32_t header[PANEL_HEADER_LEN],
 /*
  * The nine words of one block, row by row. Nothing is written but words.
  *   words    the block; nine times 0 beside a refusal
- * Refusals, in this order: 1 the header's w or h past 2048; 10 the header's lock past the picture; 3; 4 marks; 5
- * (bx, by) outside the picture; 7 the block is stale.
+ * Refusals, in this order: 1 the header's w or h past 2048; 10 the header's lock past the picture; 3; 4 marks; 13 the
+ * header's clarity; 5 (bx, by) outside the picture; 7 the block is stale.
  */
 uint32_t panel_show(const uint32_t header[PANEL_HEADER_LEN],
                     const uint32_t *output, size_t output_len,

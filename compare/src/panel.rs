@@ -4,8 +4,23 @@
 
 use std::os::raw::c_float;
 
-/// A session's header: w, h, and left, top, width and height of the lock.
-pub type Header = [u32; 6];
+/// A session's header: w, h, left, top, width and height of the lock, and the kind and the pattern of its setting.
+pub type Header = [u32; 8];
+
+/// A setting of clarity as a caller gives it, lawful or not: its kind, and its single by the pattern.
+#[derive(Clone, Copy, Debug, PartialEq, Eq)]
+pub struct Setting {
+    pub kind: u32,
+    pub bits: u32,
+}
+
+pub const STANDARD: Setting = Setting { kind: 0, bits: 0 };
+
+impl Setting {
+    fn threshold(self) -> c_float {
+        f32::from_bits(self.bits)
+    }
+}
 
 /// One paint of a list, as the C header has it.
 #[repr(C)]
@@ -25,6 +40,8 @@ mod c {
         pub fn panel_scale(
             w: u32,
             h: u32,
+            clarity: u32,
+            threshold: c_float,
             picture: *const u32,
             picture_len: usize,
             output: *mut u32,
@@ -37,6 +54,8 @@ mod c {
         pub fn panel_scale9x(
             w: u32,
             h: u32,
+            clarity: u32,
+            threshold: c_float,
             picture: *const u32,
             picture_len: usize,
             output: *mut u32,
@@ -51,6 +70,8 @@ mod c {
         pub fn panel_open(
             w: u32,
             h: u32,
+            clarity: u32,
+            threshold: c_float,
             picture: *const u32,
             picture_len: usize,
             output: *mut u32,
@@ -126,6 +147,14 @@ mod c {
 /// What the numbers behind pointers hold before a call: a call must write every one of them.
 const UNWRITTEN: u32 = 0xdead_beef;
 
+/// Makes a call that is lent a header, which it has to leave as it is.
+fn lend(header: Header, call: impl FnOnce(*const Header) -> u32) -> u32 {
+    let mut lent = header;
+    let refusal = call(&raw mut lent);
+    assert_eq!(lent, header, "a header that was lent has been written");
+    refusal
+}
+
 pub fn root(x: f32) -> (u32, f32) {
     let mut root = f32::from_bits(UNWRITTEN);
     let refusal = unsafe { c::panel_root(x, &mut root) };
@@ -136,11 +165,20 @@ pub fn distance(p: u32, q: u32) -> f32 {
     unsafe { c::panel_distance(p, q) }
 }
 
-pub fn scale(w: u32, h: u32, picture: &[u32], output: &mut [u32], singles: &mut [f32], bytes: &mut [u8]) -> u32 {
+pub fn scale(
+    [w, h]: [u32; 2],
+    setting: Setting,
+    picture: &[u32],
+    output: &mut [u32],
+    singles: &mut [f32],
+    bytes: &mut [u8],
+) -> u32 {
     unsafe {
         c::panel_scale(
             w,
             h,
+            setting.kind,
+            setting.threshold(),
             picture.as_ptr(),
             picture.len(),
             output.as_mut_ptr(),
@@ -154,8 +192,8 @@ pub fn scale(w: u32, h: u32, picture: &[u32], output: &mut [u32], singles: &mut 
 }
 
 pub fn scale9x(
-    w: u32,
-    h: u32,
+    [w, h]: [u32; 2],
+    setting: Setting,
     picture: &[u32],
     output: &mut [u32],
     middle: &mut [u32],
@@ -166,6 +204,8 @@ pub fn scale9x(
         c::panel_scale9x(
             w,
             h,
+            setting.kind,
+            setting.threshold(),
             picture.as_ptr(),
             picture.len(),
             output.as_mut_ptr(),
@@ -187,13 +227,15 @@ pub struct Opened {
     pub stale: u32,
 }
 
-pub fn open(w: u32, h: u32, picture: &[u32], output: &mut [u32], marks: &mut [u8]) -> Opened {
-    let mut header = [UNWRITTEN; 6];
+pub fn open([w, h]: [u32; 2], setting: Setting, picture: &[u32], output: &mut [u32], marks: &mut [u8]) -> Opened {
+    let mut header = [UNWRITTEN; 8];
     let mut stale = UNWRITTEN;
     let refusal = unsafe {
         c::panel_open(
             w,
             h,
+            setting.kind,
+            setting.threshold(),
             picture.as_ptr(),
             picture.len(),
             output.as_mut_ptr(),
@@ -216,9 +258,9 @@ pub struct Painted {
 
 pub fn paint(header: Header, picture: &mut [u32], marks: &mut [u8], column: u32, row: u32, word: u32) -> Painted {
     let (mut changed, mut stale) = (UNWRITTEN, UNWRITTEN);
-    let refusal = unsafe {
+    let refusal = lend(header, |header| unsafe {
         c::panel_paint(
-            &header,
+            header,
             picture.as_mut_ptr(),
             picture.len(),
             marks.as_mut_ptr(),
@@ -229,7 +271,7 @@ pub fn paint(header: Header, picture: &mut [u32], marks: &mut [u8], column: u32,
             &mut changed,
             &mut stale,
         )
-    };
+    });
     Painted { refusal, changed, stale }
 }
 
@@ -241,9 +283,9 @@ pub struct PaintedList {
 
 pub fn paint_list(header: Header, picture: &mut [u32], marks: &mut [u8], items: &[Item]) -> PaintedList {
     let mut stale = UNWRITTEN;
-    let refusal = unsafe {
+    let refusal = lend(header, |header| unsafe {
         c::panel_paint_list(
-            &header,
+            header,
             picture.as_mut_ptr(),
             picture.len(),
             marks.as_mut_ptr(),
@@ -252,7 +294,7 @@ pub fn paint_list(header: Header, picture: &mut [u32], marks: &mut [u8], items: 
             items.len(),
             &mut stale,
         )
-    };
+    });
     PaintedList { refusal, stale }
 }
 
@@ -265,9 +307,9 @@ pub struct Refreshed {
 
 pub fn refresh(header: Header, picture: &[u32], output: &mut [u32], marks: &mut [u8], n: u32) -> Refreshed {
     let (mut drawn, mut left) = (UNWRITTEN, UNWRITTEN);
-    let refusal = unsafe {
+    let refusal = lend(header, |header| unsafe {
         c::panel_refresh(
-            &header,
+            header,
             picture.as_ptr(),
             picture.len(),
             output.as_mut_ptr(),
@@ -278,7 +320,7 @@ pub fn refresh(header: Header, picture: &[u32], output: &mut [u32], marks: &mut 
             &mut drawn,
             &mut left,
         )
-    };
+    });
     Refreshed { refusal, drawn, left }
 }
 
@@ -290,9 +332,9 @@ pub struct Shown {
 
 pub fn show(header: Header, output: &[u32], marks: &[u8], bx: u32, by: u32) -> Shown {
     let mut words = [UNWRITTEN; 9];
-    let refusal = unsafe {
-        c::panel_show(&header, output.as_ptr(), output.len(), marks.as_ptr(), marks.len(), bx, by, &mut words)
-    };
+    let refusal = lend(header, |header| unsafe {
+        c::panel_show(header, output.as_ptr(), output.len(), marks.as_ptr(), marks.len(), bx, by, &mut words)
+    });
     Shown { refusal, words }
 }
 
@@ -303,8 +345,8 @@ pub struct Locked {
 }
 
 pub fn lock(header: Header, [left, top, width, height]: [u32; 4]) -> Locked {
-    let mut locked = [UNWRITTEN; 6];
-    let refusal = unsafe { c::panel_lock(&header, left, top, width, height, &mut locked) };
+    let mut locked = [UNWRITTEN; 8];
+    let refusal = lend(header, |header| unsafe { c::panel_lock(header, left, top, width, height, &mut locked) });
     Locked { refusal, header: locked }
 }
 

@@ -1,9 +1,11 @@
 //! One session call alone: what it answers and leaves by the rules, whatever header, marks and lengths it is lent.
 
+use super::drawing;
 use super::lent::{Bits, Lent};
-use super::machine::{header, lock_of, names, past, Answer, Call, Rectangle, ITEMS, NONE};
-use super::original;
-use crate::panel::{self, Header, Item};
+use super::machine::{header, lock_of, names, past, setting_of, Answer, Call, Rectangle, ITEMS, NONE};
+use super::plain::Clarity;
+use super::setting::{answered, meant};
+use crate::panel::{self, Header, Item, Setting};
 
 /// The buffers of a session, as they are lent or as they are left.
 #[derive(Clone)]
@@ -57,8 +59,9 @@ impl Buffers {
         }
     }
 
-    fn lengths(&self) -> (usize, usize, usize) {
-        (self.picture.part().len(), self.output.part().len(), self.marks.part().len())
+    fn lengths(&self) -> Lengths {
+        let (picture, output, marks) = (self.picture.part().len(), self.output.part().len(), self.marks.part().len());
+        Lengths { picture: Some(picture), output: Some(output), marks: Some(marks) }
     }
 }
 
@@ -72,37 +75,55 @@ fn place<T: Bits>(name: &str, got: &Lent<T>, expected: &Lent<T>) -> Option<Strin
     Some(format!("{name} element {at}: {a:08x}, expected {b:08x}"))
 }
 
-/// The refusal of a header and of sizes: sides, the header's lock, then the buffers that the call is lent.
-fn sizes(header: Header, picture: Option<usize>, output: Option<usize>, marks: Option<usize>) -> u32 {
+/// The lengths of the buffers that a call is lent.
+#[derive(Clone, Copy, Debug, Default)]
+struct Lengths {
+    picture: Option<usize>,
+    output: Option<usize>,
+    marks: Option<usize>,
+}
+
+/// The refusal of a header and of sizes: sides, the header's lock and the one given, then the buffers that the call is
+/// lent, then the setting.
+fn sizes(header: Header, given: Rectangle, lengths: Lengths) -> u32 {
     let [w, h, ..] = header;
     let wh = u64::from(w) * u64::from(h);
     let short = |len: Option<usize>, each: u64| len.is_some_and(|len| (len as u64) < each * wh);
     if w > 2048 || h > 2048 {
         1
-    } else if past(lock_of(header), w, h) {
+    } else if past(lock_of(header), w, h) || past(given, w, h) {
         10
-    } else if short(picture, 1) {
+    } else if short(lengths.picture, 1) {
         2
-    } else if short(output, 9) {
+    } else if short(lengths.output, 9) {
         3
-    } else if short(marks, 1) {
+    } else if short(lengths.marks, 1) {
         4
+    } else if meant(setting_of(header)).is_none() {
+        13
     } else {
         0
     }
 }
 
+/// What a call is lent, and the position that it names.
+fn asked(buffers: &Buffers, call: &Call) -> (Lengths, Option<(u32, u32)>) {
+    let Lengths { picture, output, marks } = buffers.lengths();
+    let painted = Lengths { picture, output: None, marks };
+    match *call {
+        Call::Paint { column, row, .. } => (painted, Some((column, row))),
+        Call::PaintList { .. } => (painted, None),
+        Call::Refresh { .. } => (buffers.lengths(), None),
+        Call::Show { bx, by } => (Lengths { picture: None, output, marks }, Some((bx, by))),
+        Call::Lock { .. } => (Lengths::default(), None),
+    }
+}
+
 /// What one call answers, and what it leaves in the buffers.
 fn alone(header: Header, buffers: &mut Buffers, call: &Call) -> Answer {
-    let (picture, output, marks) = buffers.lengths();
-    let (picture, output, marks) = (Some(picture), Some(output), Some(marks));
-    let (refusal, at) = match *call {
-        Call::Paint { column, row, .. } => (sizes(header, picture, None, marks), Some((column, row))),
-        Call::PaintList { .. } => (sizes(header, picture, None, marks), None),
-        Call::Refresh { .. } => (sizes(header, picture, output, marks), None),
-        Call::Show { bx, by } => (sizes(header, None, output, marks), Some((bx, by))),
-        Call::Lock { .. } => (sizes(header, None, None, None), None),
-    };
+    let (lengths, at) = asked(buffers, call);
+    let given = if let Call::Lock { lock } = *call { lock } else { NONE };
+    let refusal = sizes(header, given, lengths);
     if refusal != 0 {
         return Answer::Refused(refusal);
     }
@@ -110,10 +131,11 @@ fn alone(header: Header, buffers: &mut Buffers, call: &Call) -> Answer {
         return Answer::Refused(5);
     }
     let (w, h) = (header[0] as usize, header[1] as usize);
+    let clarity = meant(setting_of(header)).expect("a setting that was not refused");
     match *call {
         Call::Paint { column, row, word } => paint(header, buffers, (column, row), word),
         Call::PaintList { ref items } => paint_list(header, buffers, items),
-        Call::Refresh { n } => refresh(w, h, buffers, n),
+        Call::Refresh { n } => refresh(clarity, [w, h], buffers, n),
         Call::Show { bx, by } => show(w, buffers, bx as usize, by as usize),
         Call::Lock { lock } => locked(header, lock),
     }
@@ -124,7 +146,7 @@ fn count(marks: &[u8]) -> u32 {
     marks.iter().filter(|&&mark| mark != 0).count() as u32
 }
 
-fn paint([w, h, left, top, width, height]: Header, buffers: &mut Buffers, (x, y): (u32, u32), word: u32) -> Answer {
+fn paint([w, h, left, top, width, height, ..]: Header, buffers: &mut Buffers, (x, y): (u32, u32), word: u32) -> Answer {
     let (columns, position) = (w as usize, (x as usize, y as usize));
     let marks = &mut buffers.marks.part_mut()[..columns * h as usize];
     let here = &mut buffers.picture.part_mut()[position.1 * columns + position.0];
@@ -162,15 +184,12 @@ fn paint_list(header: Header, buffers: &mut Buffers, items: &[Item]) -> Answer {
     Answer::PaintedList { stale: count(&buffers.marks.part()[..header[0] as usize * header[1] as usize]) }
 }
 
-fn locked([w, h, ..]: Header, lock: Rectangle) -> Answer {
-    if past(lock, w, h) {
-        return Answer::Refused(10);
-    }
-    Answer::Locked(header(w, h, lock))
+fn locked(lent: Header, lock: Rectangle) -> Answer {
+    Answer::Locked(header([lent[0], lent[1]], lock, answered(setting_of(lent))))
 }
 
-fn refresh(w: usize, h: usize, buffers: &mut Buffers, n: u32) -> Answer {
-    let whole = original::scale(&buffers.picture.part()[..w * h], w, h);
+fn refresh(clarity: Clarity, [w, h]: [usize; 2], buffers: &mut Buffers, n: u32) -> Answer {
+    let whole = drawing::words(clarity, &buffers.picture.part()[..w * h], w, h);
     let (output, marks) = (buffers.output.part_mut(), &mut buffers.marks.part_mut()[..w * h]);
     let mut drawn = 0;
     for (at, mark) in marks.iter_mut().enumerate().filter(|(_, mark)| **mark != 0).take(n as usize) {
@@ -192,34 +211,33 @@ fn show(w: usize, buffers: &Buffers, bx: usize, by: usize) -> Answer {
     Answer::Shown(std::array::from_fn(word))
 }
 
-/// One call of the library on these buffers, beside the rules.
-pub fn call_alone(header: Header, mut got: Buffers, call: &Call) -> Result<(), String> {
+/// One call of the library on these buffers, beside the rules; what both answer.
+pub fn call_alone(header: Header, mut got: Buffers, call: &Call) -> Result<Answer, String> {
     let mut expected = got.clone();
     let said = got.call(header, call);
-    let should = Ok(alone(header, &mut expected, call));
-    let text = if said == should {
+    let should = alone(header, &mut expected, call);
+    let text = if said == Ok(should) {
         got.difference(&expected)
     } else {
         Some(format!("answered {said:?}, expected {should:?}"))
     };
-    text.map_or(Ok(()), |text| Err(format!("alone, header {header:?}, {call:?}: {text}")))
+    text.map_or(Ok(should), |text| Err(format!("alone, header {header:?}, {call:?}: {text}")))
 }
 
 /// One opening by the library on these buffers, beside the rules.
-pub fn opening([w, h]: [u32; 2], mut got: Buffers) -> Result<(), String> {
+pub fn opening(sides: [u32; 2], setting: Setting, mut got: Buffers) -> Result<(), String> {
     let mut expected = got.clone();
-    let opened = panel::open(w, h, got.picture.part(), got.output.part_mut(), got.marks.part_mut());
-    let lengths = got.lengths();
-    let fresh = header(w, h, NONE);
-    let refusal = sizes(fresh, Some(lengths.0), Some(lengths.1), Some(lengths.2));
-    let mut should = panel::Opened { refusal, header: [0; 6], stale: 0 };
+    let opened = panel::open(sides, setting, got.picture.part(), got.output.part_mut(), got.marks.part_mut());
+    let refusal = sizes(header(sides, NONE, setting), NONE, got.lengths());
+    let mut should = panel::Opened { refusal, header: [0; 8], stale: 0 };
     if refusal == 0 {
-        let wh = w as usize * h as usize;
-        should = panel::Opened { refusal, header: fresh, stale: wh as u32 };
+        let wh = sides[0] as usize * sides[1] as usize;
+        should = panel::Opened { refusal, header: header(sides, NONE, answered(setting)), stale: wh as u32 };
         expected.output.put(&vec![0; 9 * wh]);
         expected.marks.put(&vec![1; wh]);
     }
     let text =
         if opened == should { got.difference(&expected) } else { Some(format!("{opened:?}, expected {should:?}")) };
-    text.map_or(Ok(()), |text| Err(format!("opening {w} by {h} with lengths {lengths:?}: {text}")))
+    let lengths = got.lengths();
+    text.map_or(Ok(()), |text| Err(format!("opening {sides:?} at {setting:?} with {lengths:?}: {text}")))
 }

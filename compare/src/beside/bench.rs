@@ -2,12 +2,13 @@
 //! The library's buffers are made and written once before the first repetition and not cleared between them: what they
 //! hold does not matter to it. The original makes its own at each call.
 
+use super::bench_clarity;
 use super::bench_session;
 use super::font;
 use super::original;
 use super::random::Random;
 use super::times::{best, time, Form};
-use crate::panel;
+use crate::panel::{self, Setting, STANDARD};
 use std::hint::black_box;
 
 /// Sides by repetitions.
@@ -28,7 +29,7 @@ pub fn picture(name: &str, side: usize) -> Vec<u32> {
 }
 
 /// The buffers of a whole-picture call on a square, written once.
-struct Buffers {
+pub struct Buffers {
     output: Vec<u32>,
     middle: Vec<u32>,
     singles: Vec<f32>,
@@ -36,7 +37,7 @@ struct Buffers {
 }
 
 impl Buffers {
-    fn three(pixels: usize) -> Buffers {
+    pub fn three(pixels: usize) -> Buffers {
         Buffers {
             output: vec![1; 9 * pixels],
             middle: vec![1; 0],
@@ -45,7 +46,7 @@ impl Buffers {
         }
     }
 
-    fn nine(pixels: usize) -> Buffers {
+    pub fn nine(pixels: usize) -> Buffers {
         Buffers {
             output: vec![1; 81 * pixels],
             middle: vec![1; 9 * pixels],
@@ -54,16 +55,15 @@ impl Buffers {
         }
     }
 
-    fn scale(&mut self, picture: &[u32], side: usize) {
-        let refusal =
-            panel::scale(side as u32, side as u32, picture, &mut self.output, &mut self.singles, &mut self.bytes);
+    pub fn scale(&mut self, setting: Setting, picture: &[u32], side: usize) {
+        let (sides, output) = ([side as u32; 2], &mut self.output);
+        let refusal = panel::scale(sides, setting, picture, output, &mut self.singles, &mut self.bytes);
         assert_eq!(refusal, 0);
     }
 
-    fn scale9x(&mut self, picture: &[u32], side: usize) {
-        let (output, middle) = (&mut self.output, &mut self.middle);
-        let refusal =
-            panel::scale9x(side as u32, side as u32, picture, output, middle, &mut self.singles, &mut self.bytes);
+    pub fn scale9x(&mut self, setting: Setting, picture: &[u32], side: usize) {
+        let (sides, output, middle) = ([side as u32; 2], &mut self.output, &mut self.middle);
+        let refusal = panel::scale9x(sides, setting, picture, output, middle, &mut self.singles, &mut self.bytes);
         assert_eq!(refusal, 0);
     }
 }
@@ -94,7 +94,7 @@ fn three_times(form: Form) {
         for (side, repetitions) in SCALE {
             let (picture, mut buffers) = (picture(name, side), Buffers::three(side * side));
             let original = || time(|| drop(black_box(original_scale(black_box(&picture), side))));
-            let ours = || time(|| buffers.scale(black_box(&picture), side));
+            let ours = || time(|| buffers.scale(STANDARD, black_box(&picture), side));
             row(form, "scale", name, side, best(repetitions, original, ours));
         }
     }
@@ -105,14 +105,14 @@ fn nine_times(form: Form) {
         for (side, repetitions) in SCALE9X {
             let (picture, mut buffers) = (picture(name, side), Buffers::nine(side * side));
             let original = || time(|| drop(black_box(original_scale9x(black_box(&picture), side))));
-            let ours = || time(|| buffers.scale9x(black_box(&picture), side));
+            let ours = || time(|| buffers.scale9x(STANDARD, black_box(&picture), side));
             row(form, "scale9x", name, side, best(repetitions, original, ours));
         }
     }
 }
 
 /// The parts by name.
-const PARTS: [&str; 3] = ["scale", "scale9x", "session"];
+const PARTS: [&str; 4] = ["scale", "scale9x", "session", "clarity"];
 
 /// Prints the times of the parts named, or of all; nothing is compared, and nothing run where a word is no part.
 pub fn run(form: Form, parts: &[&str]) -> Option<bool> {
@@ -132,6 +132,9 @@ pub fn run(form: Form, parts: &[&str]) -> Option<bool> {
     if wanted("session") {
         bench_session::run(form);
     }
+    if wanted("clarity") {
+        bench_clarity::run(form);
+    }
     Some(true)
 }
 
@@ -146,8 +149,8 @@ pub fn calls(words: &[&str]) -> Option<bool> {
     let name = PICTURES.into_iter().find(|known| *known == name)?;
     let picture = picture(name, side);
     match (call, ours) {
-        ("scale", true) => Buffers::three(side * side).scale(&picture, side),
-        ("scale9x", true) => Buffers::nine(side * side).scale9x(&picture, side),
+        ("scale", true) => Buffers::three(side * side).scale(STANDARD, &picture, side),
+        ("scale9x", true) => Buffers::nine(side * side).scale9x(STANDARD, &picture, side),
         ("scale", false) => drop(black_box(original_scale(&picture, side))),
         ("scale9x", false) => drop(black_box(original_scale9x(&picture, side))),
         ("change", true) => bench_session::change(&picture, side),

@@ -2,7 +2,7 @@
 
 use super::bench::{original_scale, picture, PICTURES};
 use super::times::{best, least, median, time, time_short, Form};
-use crate::panel::{self, Item};
+use crate::panel::{self, Item, Setting, STANDARD};
 use std::hint::black_box;
 
 /// A square session whose calls are timed.
@@ -28,7 +28,7 @@ const SLICE: u32 = 16;
 const FIRST_SLICES: usize = 64;
 const SESSIONS: usize = 8;
 
-struct Session {
+pub struct Session {
     header: panel::Header,
     picture: Vec<u32>,
     output: Vec<u32>,
@@ -36,10 +36,15 @@ struct Session {
 }
 
 impl Session {
-    /// Everything is stale; every buffer has been written.
+    /// Everything is stale at the standard; every buffer has been written.
     fn open(picture: &[u32], side: usize) -> Session {
+        Session::open_at(STANDARD, picture, side)
+    }
+
+    /// The same at another setting.
+    pub fn open_at(setting: Setting, picture: &[u32], side: usize) -> Session {
         let (mut output, mut marks) = (vec![1; 9 * side * side], vec![0; side * side]);
-        let opened = panel::open(side as u32, side as u32, picture, &mut output, &mut marks);
+        let opened = panel::open([side as u32; 2], setting, picture, &mut output, &mut marks);
         assert_eq!(opened.refusal, 0);
         Session { header: opened.header, picture: picture.to_vec(), output, marks }
     }
@@ -48,7 +53,7 @@ impl Session {
         panel::refresh(self.header, &self.picture, &mut self.output, &mut self.marks, n)
     }
 
-    fn refresh_all(&mut self) -> panel::Refreshed {
+    pub fn refresh_all(&mut self) -> panel::Refreshed {
         self.refresh(u32::MAX)
     }
 
@@ -63,9 +68,18 @@ impl Session {
 
     /// A paint of another word, and a refresh of all that it makes stale. Never inlined, so that a profiler finds it.
     #[inline(never)]
-    fn change_pixel(&mut self, column: usize, row: usize, word: u32) {
+    pub fn change_pixel(&mut self, column: usize, row: usize, word: u32) {
         assert_eq!(self.paint(column, row, word).changed, 1);
         assert_eq!(self.refresh_all().left, 0);
+    }
+}
+
+impl Session {
+    /// The time of one changed pixel, the i-th of some that are spread over the picture.
+    pub fn time_change(&mut self, side: usize, i: usize) -> f64 {
+        let (column, row) = (20 + 37 * i % 200, 20 + 53 * i % 200);
+        let word = self.picture[row * side + column] ^ 0x00ff_ffff;
+        time(|| self.change_pixel(column, row, word))
     }
 }
 
@@ -144,11 +158,7 @@ impl<'a> Bench<'a> {
         let side = self.square.side;
         let mut session = self.open();
         assert_eq!(session.refresh_all().left, 0);
-        let changed = median((0..200).map(|i| {
-            let (column, row) = (20 + 37 * i % 200, 20 + 53 * i % 200);
-            let word = session.picture[row * side + column] ^ 0x00ff_ffff;
-            time(|| session.change_pixel(column, row, word))
-        }));
+        let changed = median((0..200).map(|i| session.time_change(side, i)));
         self.say("one changed pixel: paint, and refresh until none is stale", changed);
         self.equal_word(&mut session);
         let nothing = least((0..20).map(|_| time_short(|| assert_eq!(session.refresh_all().drawn, 0))));

@@ -1,7 +1,9 @@
-//! Calls that enlarge a whole picture: sizes, pictures and lengths of buffers, at every edge and at random.
+//! Calls that enlarge a whole picture: sizes, pictures, settings and lengths of buffers, at every edge and at random.
 
 use super::pictures::KINDS;
 use super::random::Random;
+use super::setting::meant;
+use crate::panel::{Setting, STANDARD};
 use std::fmt;
 
 #[derive(Clone, Copy, Debug, PartialEq, Eq)]
@@ -11,6 +13,13 @@ pub enum Times {
 }
 
 impl Times {
+    pub fn passes(self) -> usize {
+        match self {
+            Times::Three => 1,
+            Times::Nine => 2,
+        }
+    }
+
     /// The largest side.
     fn limit(self) -> u32 {
         match self {
@@ -53,16 +62,23 @@ pub struct Plan {
 }
 
 impl Plan {
+    /// The call at the standard.
     pub fn case(self, random: &mut Random) -> Case {
+        self.case_at(random, |_, _| STANDARD)
+    }
+
+    /// The call at a setting that is chosen for its picture.
+    pub fn case_at(self, random: &mut Random, setting: impl FnOnce(&mut Random, &[u32]) -> Setting) -> Case {
         let Plan { times, w, h, kind, rooms } = self;
         let lawful = w.max(h) <= times.limit();
         let (columns, rows) = if lawful { (w as usize, h as usize) } else { (4, 4) };
         let picture = KINDS[kind].picture(random, columns, rows);
-        Case { times, w, h, picture, kind: KINDS[kind].name, rooms, seed: random.next() }
+        let setting = setting(random, &picture);
+        Case { times, w, h, setting, picture, kind: KINDS[kind].name, rooms, seed: random.next() }
     }
 }
 
-/// Every small size with every kind, the limits with every room, and one picture of the largest size.
+/// Every small size with every kind, and the limits with every room.
 pub fn edges() -> Vec<Plan> {
     let mut plans = Vec::new();
     for times in [Times::Three, Times::Nine] {
@@ -77,9 +93,16 @@ pub fn edges() -> Vec<Plan> {
             let rooms = all_rooms().into_iter().enumerate();
             plans.extend(rooms.map(|(i, rooms)| Plan { times, w, h, kind: i % KINDS.len(), rooms }));
         }
-        plans.push(Plan { times, w: n, h: n, kind: 0, rooms: ALL_EXACT });
     }
     plans
+}
+
+/// Noise of the largest size, three and nine times.
+pub fn largest() -> [Plan; 2] {
+    [Times::Three, Times::Nine].map(|times| {
+        let n = times.limit();
+        Plan { times, w: n, h: n, kind: 0, rooms: ALL_EXACT }
+    })
 }
 
 /// One room for each buffer alone, and each pair of short ones.
@@ -125,6 +148,7 @@ pub struct Case {
     pub times: Times,
     pub w: u32,
     pub h: u32,
+    pub setting: Setting,
     pub picture: Vec<u32>,
     kind: &'static str,
     rooms: [Room; 5],
@@ -132,10 +156,10 @@ pub struct Case {
 }
 
 impl Case {
-    /// A call on exact buffers.
+    /// A call at the standard on exact buffers.
     pub fn exact(times: Times, w: usize, h: usize, picture: &[u32]) -> Case {
         let (w, h, picture) = (w as u32, h as u32, picture.to_vec());
-        Case { times, w, h, picture, kind: "given", rooms: ALL_EXACT, seed: 1 }
+        Case { times, w, h, setting: STANDARD, picture, kind: "given", rooms: ALL_EXACT, seed: 1 }
     }
 
     fn lawful(&self) -> bool {
@@ -156,7 +180,7 @@ impl Case {
         })
     }
 
-    /// The refusal that is due: sides, then picture, output, and the rest together.
+    /// The refusal that is due: sides, then picture, output, the rest together, and last the setting.
     pub fn refusal(&self) -> u32 {
         if !self.lawful() {
             return 1;
@@ -167,6 +191,7 @@ impl Case {
             (true, _, _) => 2,
             (_, true, _) => 3,
             (_, _, true) => 4,
+            _ if meant(self.setting).is_none() => 13,
             _ => 0,
         }
     }
@@ -209,8 +234,8 @@ impl fmt::Display for Case {
     fn fmt(&self, f: &mut fmt::Formatter) -> fmt::Result {
         write!(
             f,
-            "{:?} times, {} by {} ({}), seed {:016x}, buffers",
-            self.times, self.w, self.h, self.kind, self.seed
+            "{:?} times, {} by {} ({}), setting {} {:08x}, seed {:016x}, buffers",
+            self.times, self.w, self.h, self.kind, self.setting.kind, self.setting.bits, self.seed
         )?;
         for (name, room) in BUFFERS.iter().zip(self.rooms) {
             write!(f, " {name} {room:?}")?;

@@ -40,7 +40,7 @@ fn wild(random: &mut Random, header: Header, picture: &[u32]) -> Item {
 }
 
 /// An item that is refused: outside the picture, or where there is a lock another word in it.
-fn refused(random: &mut Random, [w, h, left, top, width, height]: Header, item: Item) -> Item {
+fn refused(random: &mut Random, [w, h, left, top, width, height, ..]: Header, item: Item) -> Item {
     match random.below(4) {
         0 => Item { column: w, ..item },
         1 => Item { row: h, ..item },

@@ -1,5 +1,5 @@
-//! Sessions with sides of 2,048, the largest: painted at corners and in the middle, refreshed in slices and whole, beside
-//! the plain machine. Sides of 2,049 are refused, by the opening and by every call.
+//! Sessions with sides of 2,048, the largest, at each sort of setting: painted at corners and in the middle, refreshed in
+//! slices and whole, beside the plain machine. Sides of 2,049 are refused, by the opening and by every call.
 //!
 //! The machine redraws whole where a refresh follows a changing paint, and the original takes seconds for 2,048 by 2,048.
 //! So paints stand together, and refreshes after them: two redraws. Answers are compared at every call, the buffers after
@@ -12,9 +12,19 @@ use super::machine::{header, Call, ITEMS, NONE};
 use super::pair::Pair;
 use super::pictures::KINDS;
 use super::random::Random;
-use crate::panel::{self, Item};
+use super::setting::HALF;
+use crate::panel::{self, Item, Setting, STANDARD};
 
 const LIMIT: usize = 2048;
+
+/// The standard, threshold 0.5, another threshold and two gated ones.
+const SETTINGS: [Setting; 5] = [
+    STANDARD,
+    Setting { kind: 1, bits: HALF },
+    Setting { kind: 1, bits: 0x3e4c_cccd },
+    Setting { kind: 2, bits: HALF },
+    Setting { kind: 2, bits: 0x3f60_0000 },
+];
 
 /// The corners, the middles of the sides and the middle.
 fn places(w: usize, h: usize) -> Vec<(u32, u32)> {
@@ -32,14 +42,22 @@ struct List {
     pair: Pair,
     w: usize,
     h: usize,
+    setting: Setting,
     calls: usize,
 }
 
 impl List {
-    fn open(w: usize, h: usize, name: &str, first: &[u32], random: &mut Random) -> Result<List, String> {
+    fn open(
+        [w, h]: [usize; 2],
+        setting: Setting,
+        name: &str,
+        first: &[u32],
+        random: &mut Random,
+    ) -> Result<List, String> {
         let lengths = (w * h + 3, 9 * w * h + 5, w * h + 7);
-        let pair = Pair::open(format!("{w} by {h}, {name}"), (w, h), first, lengths, random)?;
-        Ok(List { pair, w, h, calls: 1 })
+        let title = format!("{w} by {h}, {setting:x?}, {name}");
+        let pair = Pair::open(title, [w, h], setting, first, lengths, random)?;
+        Ok(List { pair, w, h, setting, calls: 1 })
     }
 
     fn call(&mut self, call: Call) -> Result<(), String> {
@@ -129,7 +147,8 @@ impl List {
     fn whole(&self) -> Result<(), String> {
         let (w, h, n) = (self.w as u32, self.h as u32, self.w * self.h);
         let (mut output, mut singles, mut bytes) = (vec![1; 9 * n], vec![1.0; 8 * n], vec![1; 8 * n]);
-        let refusal = panel::scale(w, h, &self.pair.machine.picture, &mut output, &mut singles, &mut bytes);
+        let picture = &self.pair.machine.picture;
+        let refusal = panel::scale([w, h], self.setting, picture, &mut output, &mut singles, &mut bytes);
         if refusal != 0 || output != self.pair.got.output.part()[..9 * n] {
             return Err(format!("{w} by {h}: the last picture enlarged whole, refusal {refusal}, is not the output"));
         }
@@ -142,6 +161,10 @@ fn page(random: &mut Random, side: usize) -> Vec<u32> {
     font::page(side, side, 0, 0).into_iter().map(|word| word ^ (random.word() & 0xff00_0000)).collect()
 }
 
+fn noise(random: &mut Random, side: usize) -> Vec<u32> {
+    (0..side * side).map(|_| random.word()).collect()
+}
+
 /// Buffers for a number of blocks, each shorter by what is given.
 fn buffers(random: &mut Random, blocks: usize, [picture, output, marks]: [usize; 3]) -> Buffers {
     Buffers {
@@ -151,23 +174,29 @@ fn buffers(random: &mut Random, blocks: usize, [picture, output, marks]: [usize;
     }
 }
 
+/// A setting that is refused after all that is wrong with sides and buffers.
+const UNLAWFUL: Setting = Setting { kind: 2, bits: 0 };
+
 /// Sides of 2,049, on buffers that are long enough for 2,049 blocks; sides of 2,048 on buffers one short.
 fn refused(random: &mut Random) -> Result<(), String> {
     let (n, past) = (LIMIT as u32, LIMIT as u32 + 1);
     for [w, h] in [[past, 1], [1, past], [past, 0], [0, past], [past, n], [n, past], [past, past]] {
-        opening([w, h], buffers(random, LIMIT + 1, [0; 3]))?;
+        opening([w, h], STANDARD, buffers(random, LIMIT + 1, [0; 3]))?;
+        opening([w, h], UNLAWFUL, buffers(random, LIMIT + 1, [0; 3]))?;
         let paint = Call::Paint { column: 0, row: 0, word: 1 };
         let lock = Call::Lock { lock: [0, 0, w, h] };
         let list = Call::PaintList { items: Vec::new() };
         for call in [paint, list, Call::Refresh { n: u32::MAX }, Call::Show { bx: 0, by: 0 }, lock] {
-            call_alone(header(w, h, NONE), buffers(random, LIMIT + 1, [0; 3]), &call)?;
-            call_alone(header(w, h, [0, 0, w, h]), buffers(random, LIMIT + 1, [0; 3]), &call)?;
+            call_alone(header([w, h], NONE, STANDARD), buffers(random, LIMIT + 1, [0; 3]), &call)?;
+            call_alone(header([w, h], [0, 0, w, h], UNLAWFUL), buffers(random, LIMIT + 1, [0; 3]), &call)?;
         }
     }
     for sides in [[n, 1], [1, n]] {
         for short in [[1, 0, 0], [0, 1, 0], [0, 0, 1], [1, 1, 1]] {
-            opening(sides, buffers(random, LIMIT, short))?;
+            opening(sides, STANDARD, buffers(random, LIMIT, short))?;
+            opening(sides, UNLAWFUL, buffers(random, LIMIT, short))?;
         }
+        opening(sides, UNLAWFUL, buffers(random, LIMIT, [0; 3]))?;
     }
     Ok(())
 }
@@ -176,16 +205,21 @@ fn refused(random: &mut Random) -> Result<(), String> {
 pub fn run(random: &mut Random) -> Result<usize, String> {
     refused(random)?;
     let mut calls = 0;
-    for (w, h) in [(LIMIT, 1), (1, LIMIT)] {
-        for kind in &KINDS {
-            let first = kind.picture(random, w, h);
-            let mut list = List::open(w, h, kind.name, &first, random)?;
+    let mut settings = SETTINGS.into_iter().cycle();
+    for sides in [[LIMIT, 1], [1, LIMIT]] {
+        for (kind, setting) in KINDS.iter().zip(&mut settings) {
+            let first = kind.picture(random, sides[0], sides[1]);
+            let mut list = List::open(sides, setting, kind.name, &first, random)?;
             list.run()?;
             calls += list.calls;
         }
     }
-    let first = page(random, LIMIT);
-    let mut list = List::open(LIMIT, LIMIT, "a page", &first, random)?;
-    list.run()?;
-    Ok(calls + list.calls)
+    // a page comes out alike at most settings, noise does not
+    let squares = [("a page", STANDARD, page(random, LIMIT)), ("noise", SETTINGS[3], noise(random, LIMIT))];
+    for (name, setting, first) in squares {
+        let mut list = List::open([LIMIT; 2], setting, name, &first, random)?;
+        list.run()?;
+        calls += list.calls;
+    }
+    Ok(calls)
 }

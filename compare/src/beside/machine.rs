@@ -1,7 +1,10 @@
-//! The plain machine of a session. It redraws the picture whole by the original, and takes nothing from the library.
+//! The plain machine of a session. It redraws the picture whole at its setting, by the original or by the plain
+//! enlargement, and takes nothing from the library.
 
-use super::original;
-use crate::panel::{Header, Item};
+use super::drawing;
+use super::plain::Clarity;
+use super::setting::{answered, meant};
+use crate::panel::{Header, Item, Setting};
 
 /// A rectangle of the picture: left, top, width, height.
 pub type Rectangle = [u32; 4];
@@ -20,20 +23,28 @@ pub fn past([left, top, width, height]: Rectangle, w: u32, h: u32) -> bool {
     width > 0 && height > 0 && !(fits(left, width, w) && fits(top, height, h))
 }
 
-/// The header of a picture of w by h with a lock.
-pub fn header(w: u32, h: u32, [left, top, width, height]: Rectangle) -> Header {
-    [w, h, left, top, width, height]
+/// The header of a picture of w by h with a lock and a setting.
+pub fn header([w, h]: [u32; 2], [left, top, width, height]: Rectangle, setting: Setting) -> Header {
+    [w, h, left, top, width, height, setting.kind, setting.bits]
 }
 
 /// The lock in a header.
-pub fn lock_of([_, _, left, top, width, height]: Header) -> Rectangle {
+pub fn lock_of([_, _, left, top, width, height, _, _]: Header) -> Rectangle {
     [left, top, width, height]
+}
+
+/// The setting in a header.
+pub fn setting_of([.., kind, bits]: Header) -> Setting {
+    Setting { kind, bits }
 }
 
 pub struct Machine {
     w: usize,
     h: usize,
     lock: Rectangle,
+    /// As its header has it, and what it means.
+    setting: Setting,
+    pub clarity: Clarity,
     pub picture: Vec<u32>,
     pub stale: Vec<bool>,
     pub output: Vec<u32>,
@@ -73,11 +84,13 @@ pub fn names((column, row): (usize, usize), (bx, by): (usize, usize)) -> bool {
 }
 
 impl Machine {
-    /// Every block is stale, every output word 0, nothing locked.
-    pub fn open(w: usize, h: usize, picture: &[u32]) -> Machine {
+    /// Every block is stale, every output word 0, nothing locked. The setting is a lawful one.
+    pub fn open([w, h]: [usize; 2], setting: Setting, picture: &[u32]) -> Machine {
         let picture = picture[..w * h].to_vec();
         let (stale, output) = (vec![true; w * h], vec![0; 9 * w * h]);
-        Machine { w, h, lock: NONE, picture, stale, output, refused_at: None, whole: None }
+        let clarity = meant(setting).expect("a setting that is not refused");
+        let setting = answered(setting);
+        Machine { w, h, lock: NONE, setting, clarity, picture, stale, output, refused_at: None, whole: None }
     }
 
     pub fn stale_count(&self) -> u32 {
@@ -104,7 +117,7 @@ impl Machine {
     }
 
     pub fn header(&self) -> Header {
-        header(self.w as u32, self.h as u32, self.lock)
+        header([self.w as u32, self.h as u32], self.lock, self.setting)
     }
 
     fn relock(&mut self, lock: Rectangle) -> Answer {
@@ -156,7 +169,8 @@ impl Machine {
     fn refresh(&mut self, n: u32) -> Answer {
         let blocks = 0..self.stale.len();
         let first: Vec<usize> = blocks.filter(|&at| self.stale[at]).take(n as usize).collect();
-        let whole = self.whole.take().unwrap_or_else(|| original::scale(&self.picture, self.w, self.h));
+        let draw = || drawing::words(self.clarity, &self.picture, self.w, self.h);
+        let whole = self.whole.take().unwrap_or_else(draw);
         for &at in &first {
             self.stale[at] = false;
             for i in self.places(at) {

@@ -2,9 +2,12 @@
 
 mod alone;
 mod bench;
+mod bench_clarity;
 mod bench_session;
 mod case;
+mod clarity;
 mod distance;
+mod drawing;
 mod font;
 mod items;
 mod largest;
@@ -15,10 +18,15 @@ mod page;
 mod page_files;
 mod pair;
 mod pictures;
+mod plain;
+mod plain_tags;
 mod random;
 mod record;
 mod session;
+mod session_tally;
+mod setting;
 mod times;
+mod twin;
 mod whole;
 
 use times::Form;
@@ -28,6 +36,7 @@ pub fn run(name: &str, rest: &[&str]) -> Option<bool> {
     match (name, rest) {
         ("distance", _) => counted(distance::run, 2_000_000, rest),
         ("whole", _) => counted(whole::run, 20_000, rest),
+        ("clarity", _) => counted(clarity::run, 40_000, rest),
         ("session", _) => counted(session::run, 40_000, rest),
         ("page", _) => counted(page::run, 4_000, rest),
         ("record", []) => Some(record::run()),

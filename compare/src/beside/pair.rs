@@ -4,7 +4,7 @@ use super::alone::Buffers;
 use super::lent::Lent;
 use super::machine::{Answer, Call, Machine};
 use super::random::Random;
-use crate::panel::{self, Header};
+use crate::panel::{self, Header, Setting};
 
 pub struct Pair {
     /// The header last answered without a refusal.
@@ -19,11 +19,13 @@ pub struct Pair {
 }
 
 impl Pair {
-    /// Opens both on a picture of w by h words, the library on buffers of any contents and of these lengths: picture,
-    /// output, marks. A difference, here as below, is a text that starts with the title and the calls so far.
+    /// Opens both on a picture of w by h words at a lawful setting, the library on buffers of any contents and of these
+    /// lengths: picture, output, marks. A difference, here as below, is a text that starts with the title and the calls so
+    /// far.
     pub fn open(
         title: String,
-        (w, h): (usize, usize),
+        [w, h]: [usize; 2],
+        setting: Setting,
         first: &[u32],
         lengths: (usize, usize, usize),
         random: &mut Random,
@@ -34,8 +36,9 @@ impl Pair {
             marks: Lent::new(lengths.2, random),
         };
         let expected = got.clone();
-        let opened = panel::open(w as u32, h as u32, got.picture.part(), got.output.part_mut(), got.marks.part_mut());
-        let machine = Machine::open(w, h, first);
+        let sides = [w as u32, h as u32];
+        let opened = panel::open(sides, setting, got.picture.part(), got.output.part_mut(), got.marks.part_mut());
+        let machine = Machine::open([w, h], setting, first);
         let should = panel::Opened { refusal: 0, header: machine.header(), stale: machine.stale_count() };
         if opened != should {
             return Err(format!("{title}: opening answered {opened:?}, expected {should:?}"));
@@ -43,6 +46,11 @@ impl Pair {
         let mut pair = Pair { header: opened.header, got, expected, machine, list: title };
         pair.same()?;
         Ok(pair)
+    }
+
+    /// The title, and what was done so far.
+    pub fn title(&self) -> &str {
+        &self.list
     }
 
     /// Makes a call of both; their answers are alike.

@@ -1,16 +1,19 @@
-//! Lists of session calls beside the plain machine: every answer and every element of every buffer after each call.
-//! Between the calls of a list, calls with any header, any marks and any lengths run on copies of the buffers, beside
-//! what the rules say of one call alone.
+//! Lists of session calls at every setting beside the plain machine: every answer and every element of every buffer after
+//! each call. Between the calls of a list, calls with any header, any marks and any lengths run on copies of the buffers,
+//! beside what the rules say of one call alone. To some lists a second one is made that ends with the same picture.
 
 use super::alone::{call_alone, opening, Buffers};
 use super::items::any_items;
 use super::largest;
 use super::lent::Lent;
-use super::machine::{header, lock_of, Answer, Call, Machine, Rectangle, NONE};
+use super::machine::{header, lock_of, setting_of, Call, Rectangle, NONE};
 use super::pair::Pair;
 use super::pictures::KINDS;
 use super::random::Random;
-use crate::panel::Header;
+use super::session_tally::Tally;
+use super::setting::{self, meant};
+use super::twin;
+use crate::panel::{Header, Setting};
 
 // ---- random lists
 
@@ -122,8 +125,13 @@ fn any_length(random: &mut Random, exact: usize) -> usize {
     }
 }
 
-/// A header that no opening and no lock answered.
-fn wild_header(random: &mut Random, [w, h, ..]: Header, lock: Rectangle) -> Header {
+/// A header that no opening and no lock answered; in some only the setting is another.
+fn wild_header(random: &mut Random, lent: Header, picture: &[u32]) -> Header {
+    let ([w, h, ..], lock, setting) = (lent, lock_of(lent), setting_of(lent));
+    let setting = if random.one_in(2) { wild_setting(random, setting, picture) } else { setting };
+    if random.one_in(3) {
+        return header([w, h], lock, setting);
+    }
     let far = random.pick(&[2048, 2049, u32::MAX, 1 << 16, 1 << 31]);
     let [w, h] = match random.below(7) {
         0 => [far, h],
@@ -134,12 +142,22 @@ fn wild_header(random: &mut Random, [w, h, ..]: Header, lock: Rectangle) -> Head
         _ => [w, h],
     };
     let lock = if random.one_in(2) { any_rectangle(random, w.min(60) as usize, h.min(60) as usize) } else { lock };
-    header(w, h, lock)
+    header([w, h], lock, setting)
+}
+
+/// Any setting, or the one given with a bit turned.
+fn wild_setting(random: &mut Random, setting: Setting, picture: &[u32]) -> Setting {
+    match random.below(5) {
+        0 => Setting { kind: setting.kind ^ (1 << random.below(32)), ..setting },
+        1 => Setting { bits: setting.bits ^ (1 << random.below(32)), ..setting },
+        2 => setting::lawful(random, picture),
+        _ => setting::refused(random),
+    }
 }
 
 /// A header, lengths and marks that no call left.
 fn wild(random: &mut Random, header: Header, buffers: &Buffers) -> (Header, Buffers) {
-    let header = wild_header(random, header, lock_of(header));
+    let header = wild_header(random, header, buffers.picture.part());
     let mut copy = buffers.clone();
     if random.one_in(2) {
         for mark in copy.marks.part_mut() {
@@ -155,15 +173,18 @@ fn wild(random: &mut Random, header: Header, buffers: &Buffers) -> (Header, Buff
     (header, Buffers { picture, output, marks })
 }
 
-fn any_alone(random: &mut Random, header: Header, buffers: &Buffers) -> Result<(), String> {
+/// A call with a wild header.
+fn any_alone(random: &mut Random, header: Header, buffers: &Buffers, tally: &mut Tally) -> Result<(), String> {
     let (header, got) = wild(random, header, buffers);
     let call = any_call(random, header, got.picture.part());
-    call_alone(header, got, &call)
+    let answer = call_alone(header, got, &call)?;
+    tally.add_alone(&call, answer, meant(setting_of(header)).is_some());
+    Ok(())
 }
 
 // ---- opening
 
-/// An opening of any sizes on any lengths that is refused, or on sides of 0.
+/// An opening of any sizes on any lengths, at any setting.
 fn any_opening(random: &mut Random) -> Result<(), String> {
     let side = |random: &mut Random| random.pick(&[0, 1, 2, 3, 5, 2048, 2049, 65536, u32::MAX]);
     let [w, h] = [side(random), side(random)];
@@ -174,61 +195,22 @@ fn any_opening(random: &mut Random) -> Result<(), String> {
         output: Lent::new(cut(random, 9 * wh), random),
         marks: Lent::new(cut(random, wh), random),
     };
-    opening([w, h], got)
+    let setting = setting::any(random, got.picture.part());
+    opening([w, h], setting, got)
+}
+
+/// An opening on buffers that are long enough, at a setting that is refused.
+fn refused_opening(random: &mut Random, [w, h]: [usize; 2], first: &[u32]) -> Result<(), String> {
+    let wh = w * h;
+    let got = Buffers {
+        picture: Lent::with(first, wh, random),
+        output: Lent::new(9 * wh, random),
+        marks: Lent::new(wh, random),
+    };
+    opening([w as u32, h as u32], setting::refused(random), got)
 }
 
 // ---- the run
-
-#[derive(Default)]
-struct Tally {
-    lists: usize,
-    calls: usize,
-    refused: usize,
-    locks: usize,
-    past: usize,
-    locked: usize,
-    alone: usize,
-    paint_lists: PaintLists,
-}
-
-/// The lists of paints: how many, with how many items, and how they ended.
-#[derive(Default)]
-struct PaintLists {
-    calls: usize,
-    items: usize,
-    taken: usize,
-    long: usize,
-    /// Refused for the first item, for one between, for the last.
-    refused: [usize; 3],
-}
-
-impl PaintLists {
-    fn add(&mut self, items: usize, answer: Answer, refused_at: Option<usize>) {
-        self.calls += 1;
-        self.items += items;
-        match answer {
-            Answer::Refused(12) => self.long += 1,
-            Answer::Refused(_) => {
-                let at = refused_at.expect("the item that was refused");
-                self.refused[if at == 0 { 0 } else { 1 + usize::from(at + 1 == items) }] += 1;
-            }
-            _ => self.taken += 1,
-        }
-    }
-}
-
-impl Tally {
-    fn add(&mut self, call: &Call, answer: Answer, machine: &Machine) {
-        if let Call::PaintList { items } = call {
-            self.paint_lists.add(items.len(), answer, machine.refused_at);
-        }
-        self.calls += 1;
-        self.refused += usize::from(matches!(answer, Answer::Refused(_)));
-        self.locks += usize::from(matches!(call, Call::Lock { .. }));
-        self.past += usize::from(answer == Answer::Refused(10));
-        self.locked += usize::from(answer == Answer::Refused(11));
-    }
-}
 
 /// The call of a turn: one turn of every list is a lock, one a list of paints, and the first of some draws everything.
 fn turn(random: &mut Random, turn: usize, [lock_at, items_at]: [usize; 2], drawn_first: bool, pair: &Pair) -> Call {
@@ -244,10 +226,15 @@ fn turn(random: &mut Random, turn: usize, [lock_at, items_at]: [usize; 2], drawn
 fn any_list(random: &mut Random, kind: usize, tally: &mut Tally) -> Result<(), String> {
     let (w, h) = any_size(random);
     let first = KINDS[kind].picture(random, w, h);
+    if random.one_in(4) {
+        refused_opening(random, [w, h], &first)?;
+        tally.add_refused_opening();
+    }
     let lengths = (any_length(random, w * h), any_length(random, 9 * w * h), any_length(random, w * h));
-    let title = format!("{w} by {h}, lengths {lengths:?}, picture {first:08x?}");
-    let mut pair = Pair::open(title, (w, h), &first, lengths, random)?;
-    tally.lists += 1;
+    let setting = setting::lawful(random, &first);
+    let title = format!("{w} by {h}, {setting:x?}, lengths {lengths:?}, picture {first:08x?}");
+    let mut pair = Pair::open(title, [w, h], setting, &first, lengths, random)?;
+    tally.add_list(&pair.machine);
     let turns = random.between(3, 24);
     let (lock_at, drawn_first) = (random.between(1, turns - 1), random.one_in(2));
     let items_at = 1 + (lock_at + random.below(turns - 2)) % (turns - 1);
@@ -257,9 +244,11 @@ fn any_list(random: &mut Random, kind: usize, tally: &mut Tally) -> Result<(), S
         pair.same()?;
         tally.add(&call, answer, &pair.machine);
         if random.one_in(4) {
-            tally.alone += 1;
-            any_alone(random, pair.header, &pair.got)?;
+            any_alone(random, pair.header, &pair.got, tally)?;
         }
+    }
+    if random.one_in(4) {
+        tally.add_twin(twin::compare(random, &mut pair)?);
     }
     Ok(())
 }
@@ -293,22 +282,6 @@ pub fn run(count: usize, seed: u64) -> bool {
     if let Some(text) = found.iter().min_by_key(|text| text.len()) {
         println!("{text}");
     }
-    println!(
-        "session: {} lists of {} calls ({} of them refused), a lock in every list ({} locks, {} refused; {} paints refused in \
-         a lock), and {} calls alone with any header and marks: {} differences",
-        tally.lists,
-        tally.calls,
-        tally.refused,
-        tally.locks,
-        tally.past,
-        tally.locked,
-        tally.alone,
-        found.len()
-    );
-    let PaintLists { calls, items, taken, long, refused: [first, between, last] } = tally.paint_lists;
-    println!(
-        "session: a list of paints in every list of calls, {calls} of {items} items: {taken} taken, {long} refused for more than \
-         64, {first} for their first item, {between} for one between, {last} for the last"
-    );
+    tally.print(found.len());
     largest && found.is_empty()
 }

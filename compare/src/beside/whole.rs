@@ -1,10 +1,13 @@
 //! Whole pictures, three and nine times: the library beside the original, in every bit of every buffer.
 
 use super::case::{self, Case, Times};
+use super::drawing::By;
 use super::lent::{Bits, Lent};
-use super::original::{self, Stages};
+use super::original;
 use super::pictures::KINDS;
+use super::plain::{Clarity, Drawn};
 use super::random::Random;
+use super::setting::meant;
 use crate::panel;
 
 /// The buffers of a call, as they are lent or as they are left.
@@ -32,30 +35,25 @@ impl Buffers {
 
     fn call(&mut self, case: &Case) -> u32 {
         let (output, singles, bytes) = (self.output.part_mut(), self.singles.part_mut(), self.bytes.part_mut());
+        let (sides, setting, picture) = ([case.w, case.h], case.setting, self.picture.part());
         match case.times {
-            Times::Three => panel::scale(case.w, case.h, self.picture.part(), output, singles, bytes),
-            Times::Nine => {
-                panel::scale9x(case.w, case.h, self.picture.part(), output, self.middle.part_mut(), singles, bytes)
-            }
+            Times::Three => panel::scale(sides, setting, picture, output, singles, bytes),
+            Times::Nine => panel::scale9x(sides, setting, picture, output, self.middle.part_mut(), singles, bytes),
         }
     }
 
-    /// What the original leaves: words and stage results at the front of each buffer.
-    fn fill(&mut self, case: &Case) {
+    /// What an enlargement leaves: words and stage results at the front of each buffer.
+    fn fill(&mut self, case: &Case, clarity: Clarity, by: By) {
         let (w, h) = (case.w as usize, case.h as usize);
-        let last = match case.times {
-            Times::Three => {
-                self.output.put(&original::scale(&case.picture, w, h));
-                original::stages(&case.picture, w, h)
-            }
-            Times::Nine => {
-                let middle = original::scale(&case.picture, w, h);
-                self.output.put(&original::scale9x(&case.picture, w, h));
-                self.middle.put(&middle);
-                original::stages(&middle, 3 * w, 3 * h)
-            }
-        };
-        assert!(self.output.part().starts_with(&last.output), "the copy with exposed stages is not the original");
+        let mut last = by.draw(clarity, &case.picture, w, h);
+        if case.times == Times::Nine {
+            self.middle.put(&last.output);
+            last = by.draw(clarity, &last.output, 3 * w, 3 * h);
+        }
+        let whole = if case.times == Times::Three { original::scale } else { original::scale9x };
+        let copied = by == By::Plain || last.output == whole(&case.picture, w, h);
+        assert!(copied, "the copy with exposed stages is not the original");
+        self.output.put(&last.output);
         self.singles.put(&singles(&last));
         self.bytes.put(&bytes(&last));
     }
@@ -78,12 +76,12 @@ fn second_pass(case: &Case) -> isize {
 }
 
 /// All metrics, then all weights.
-fn singles(stages: &Stages) -> Vec<f32> {
+fn singles(stages: &Drawn) -> Vec<f32> {
     stages.metrics.iter().chain(&stages.weights).flatten().copied().collect()
 }
 
 /// All junction numbers, then all tag numbers.
-fn bytes(stages: &Stages) -> Vec<u8> {
+fn bytes(stages: &Drawn) -> Vec<u8> {
     stages.junctions.iter().chain(&stages.tags).flatten().copied().collect()
 }
 
@@ -103,37 +101,54 @@ fn stage<T: Bits>(names: [&str; 2], pixels: isize, got: &Lent<T>, expected: &Len
     Some(format!("{place}: {a:08x}, expected {b:08x}"))
 }
 
+/// Who draws what is expected at a setting.
+pub type Drawers = fn(Clarity) -> &'static [By];
+
 /// What is wrong with the call, if anything.
-fn wrong(case: &Case) -> Option<String> {
+pub fn wrong(case: &Case, drawers: Drawers) -> Option<String> {
     let mut got = Buffers::of(case);
-    let mut expected = got.clone();
+    let lent = got.clone();
     let refusal = got.call(case);
     if refusal != case.refusal() {
         return Some(format!("refusal {refusal}, expected {}", case.refusal()));
     }
-    if refusal == 0 {
-        expected.fill(case);
-    }
-    got.difference(&expected, case)
+    let Some(clarity) = meant(case.setting).filter(|_| refusal == 0) else {
+        return got.difference(&lent, case);
+    };
+    drawers(clarity).iter().find_map(|&by| {
+        let mut expected = lent.clone();
+        expected.fill(case, clarity, by);
+        got.difference(&expected, case).map(|text| format!("beside {by:?}: {text}"))
+    })
+}
+
+/// The original alone, for calls at the standard.
+fn original_alone(_: Clarity) -> &'static [By] {
+    &[By::Original]
 }
 
 /// What is wrong with a picture enlarged three and nine times on exact buffers, if anything.
 pub fn wrong_exact(w: usize, h: usize, picture: &[u32]) -> Option<String> {
     [Times::Three, Times::Nine].into_iter().find_map(|times| {
         let case = Case::exact(times, w, h, picture);
-        wrong(&case).map(|text| format!("{case}\n{text}"))
+        wrong(&case, original_alone).map(|text| format!("{case}\n{text}"))
     })
 }
 
-/// The smallest case found that is still wrong.
-fn smallest(mut case: Case) -> Case {
+/// Whether a case is as expected; where it is not, the smallest case found that is still wrong is printed.
+pub fn good(mut case: Case, wrong: impl Fn(&Case) -> Option<String>) -> bool {
+    if wrong(&case).is_none() {
+        return true;
+    }
     loop {
         let simpler = case.simpler().find(|next| wrong(next).is_some());
         match simpler {
             Some(next) => case = next,
-            None => return case,
+            None => break,
         }
     }
+    println!("{case}\n{}", wrong(&case).unwrap_or_default());
+    false
 }
 
 /// What was run.
@@ -156,20 +171,16 @@ impl Tally {
             }
             _ => self.refused += 1,
         }
-        if wrong(&case).is_none() {
-            return true;
-        }
-        let case = smallest(case);
-        println!("{case}\n{}", wrong(&case).unwrap_or_default());
-        false
+        good(case, |case| wrong(case, original_alone))
     }
 }
 
-/// The edges, and at least a count of pictures of every kind; true where nothing differs.
+/// The edges, the largest pictures, and at least a count of pictures of every kind; true where nothing differs.
 pub fn run(count: usize, seed: u64) -> bool {
     let mut random = Random::new(seed);
     let mut tally = Tally::default();
-    let mut good = case::edges().into_iter().all(|plan| tally.check(plan.case(&mut random)));
+    let edges = case::edges().into_iter().chain(case::largest());
+    let mut good = edges.into_iter().all(|plan| tally.check(plan.case(&mut random)));
     let mut kind = 0;
     while good && tally.enlarged < count {
         let plan = case::any(&mut random, kind % KINDS.len());

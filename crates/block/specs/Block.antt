@@ -1,20 +1,22 @@
--- Section 6's block: the 3 by 3 output words of one source pixel, laid out as `assemble_3x` lays them. Definitions only.
+-- Section 6's block: the 3 by 3 output words of one source pixel at a setting of clarity, laid out as `assemble_3x` lays them.
+-- Definitions only.
 use mathlib.Core.List.{List, [], _∷_}
 use Prim.Native.Nat.{ℕ, _/_, _%_}
 use Rattle.picture.specs.Picture.{near}
+use Rattle.clarity.specs.declared.Clarity.{Clarity}
 use Rattle.metric.specs.Metric.{metrics}
-use Rattle.metric.specs.Weight.{weights}
+use Rattle.weight.specs.Weight.{weights}
 use Rattle.junction.specs.declared.Junctions.{Junctions}
 use Rattle.junction.specs.Junction.{junctions}
 use Rattle.tag.specs.declared.Tags.{Tags}
 use Rattle.tag.specs.Tag.{tags, offsetOf}
 
 -- the passes one after the other, on the field f of a picture's words
-unfoldable pub pictureJunctions : ℕ → ℕ → (ℕ → ℕ → ℕ) → ℕ → ℕ → Junctions
-pictureJunctions w h f = junctions w h (metrics w h f) (weights w h (metrics w h f))
+unfoldable pub pictureJunctions : Clarity → ℕ → ℕ → (ℕ → ℕ → ℕ) → ℕ → ℕ → Junctions
+pictureJunctions q w h f = junctions w h (metrics w h f) (weights q w h (metrics w h f))
 
-unfoldable pub pictureTags : ℕ → ℕ → (ℕ → ℕ → ℕ) → ℕ → ℕ → Tags
-pictureTags w h f = tags w h (pictureJunctions w h f)
+unfoldable pub pictureTags : Clarity → ℕ → ℕ → (ℕ → ℕ → ℕ) → ℕ → ℕ → Tags
+pictureTags q w h f = tags w h (pictureJunctions q w h f)
 
 -- the corner tag and the mid-edge tag of a tag number
 abbrev pub corner : ℕ → ℕ
@@ -36,5 +38,5 @@ blockFrom w h f x y t =
     ∷ word (corner (t .t3)) ∷ word (mid (t .t2)) ∷ word (corner (t .t2))
     ∷ []
 
-unfoldable pub blockOf : ℕ → ℕ → (ℕ → ℕ → ℕ) → ℕ → ℕ → List ℕ
-blockOf w h f x y = blockFrom w h f x y (pictureTags w h f x y)
+unfoldable pub blockOf : Clarity → ℕ → ℕ → (ℕ → ℕ → ℕ) → ℕ → ℕ → List ℕ
+blockOf q w h f x y = blockFrom w h f x y (pictureTags q w h f x y)

@@ -3,6 +3,4 @@ pub mod Locality
 pub mod Window
 pub mod Passes
 pub mod Table
-pub mod Store
-pub mod StoreLaws
-pub mod Strips
+pub mod Standard

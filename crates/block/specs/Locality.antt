@@ -1,4 +1,4 @@
--- What a block depends on, for every size of picture: section 6's cross. Assumes nothing.
+-- What a block depends on, for every size of picture and for every setting of clarity, lawful or not: section 6's cross. Assumes nothing.
 use mathlib.Core.Path.{_≡_, refl}
 use mathlib.Core.List.{[], _∷_}
 use Prim.Native.Nat.{ℕ, zero, suc, _<_}
@@ -9,10 +9,11 @@ use Rattle.picture.specs.Picture.{moved}
 use Rattle.picture.specs.Local.{Agree}
 use Rattle.picture.specs.Pipeline as Pipeline
 use Rattle.picture.specs.Pipeline.{Stages}
+use Rattle.clarity.specs.declared.Clarity.{Clarity}
 use Rattle.metric.specs.declared.Metric.{Metric}
 use Rattle.metric.specs.declared.Weights.{Weights}
 use Rattle.metric.specs.Metric.{metricOf, metrics}
-use Rattle.metric.specs.Weight.{weightsOf, weights}
+use Rattle.weight.specs.Weight.{weightsOf, weights}
 use Rattle.junction.specs.declared.Junctions.{Junctions}
 use Rattle.junction.specs.Junction.{arbitrateJunctions, junctions}
 use Rattle.tag.specs.declared.Tags.{Tags}
@@ -33,34 +34,34 @@ tagOf t (suc (suc (suc (suc (suc (suc (suc zero))))))) = mid (t .t2)
 tagOf t (suc (suc (suc (suc (suc (suc (suc (suc k)))))))) = corner (t .t2)
 
 -- the passes of this repository
-unfoldable pub stages : Stages ℕ Metric Weights Junctions Tags
-stages = record {
+unfoldable pub stages : Clarity → Stages ℕ Metric Weights Junctions Tags
+stages q = record {
   metricOf = metricOf;
-  weightsOf = weightsOf;
+  weightsOf = weightsOf q;
   junctionsOf = arbitrateJunctions;
   tagsOf = traceEdges;
   offX = λ t k. offsetOf (tagOf t k) .dx;
   offY = λ t k. offsetOf (tagOf t k) .dy;
 }
 
-module _ (w h : ℕ) (f g : ℕ → ℕ → ℕ) (bx by : ℕ) (hx : bx < w) (hy : by < h) where
+module _ (q : Clarity) (w h : ℕ) (f g : ℕ → ℕ → ℕ) (bx by : ℕ) (hx : bx < w) (hy : by < h) where
   -- section 6: block (bx, by) depends on no pixel but those of columns bx - 6 to bx + 6 and rows by - 3 to by + 2, and those of
   -- columns bx - 3 to bx + 3 and rows by - 6 to by + 5
-  pub cross : Agree w h bx by 6 6 3 2 f g → Agree w h bx by 3 3 6 5 f g → blockOf w h f bx by ≡ blockOf w h g bx by
+  pub cross : Agree w h bx by 6 6 3 2 f g → Agree w h bx by 3 3 6 5 f g → blockOf q w h f bx by ≡ blockOf q w h g bx by
   unfolding blockOf blockFrom tagWord pictureTags pictureJunctions tags junctions weights metrics Pipeline.blockWord Pipeline.tags
       Pipeline.junctions Pipeline.weights Pipeline.metrics stages tagOf
   cross e e′ =
-      let q = Pipeline.cross stages (λ t k. offset-reaches (tagOf t k)) w h f g bx by hx hy e e′ in
-      λ i. q 0 i ∷ q 1 i ∷ q 2 i ∷ q 3 i ∷ q 4 i ∷ q 5 i ∷ q 6 i ∷ q 7 i ∷ q 8 i ∷ []
+      let k = Pipeline.cross (stages q) (λ t k. offset-reaches (tagOf t k)) w h f g bx by hx hy e e′ in
+      λ i. k 0 i ∷ k 1 i ∷ k 2 i ∷ k 3 i ∷ k 4 i ∷ k 5 i ∷ k 6 i ∷ k 7 i ∷ k 8 i ∷ []
 
 -- section 6: a block has nine words, and the middle word is the pixel
-pub block-length : (w h : ℕ) (f : ℕ → ℕ → ℕ) (x y : ℕ) → length (blockOf w h f x y) ≡ 9
+pub block-length : (q : Clarity) (w h : ℕ) (f : ℕ → ℕ → ℕ) (x y : ℕ) → length (blockOf q w h f x y) ≡ 9
 unfolding blockOf blockFrom
-block-length w h f x y = refl
+block-length q w h f x y = refl
 
-pub middle-word : (w h : ℕ) (f : ℕ → ℕ → ℕ) (x y : ℕ) → x < w → y < h → getD (blockOf w h f x y) 4 0 ≡ f x y
+pub middle-word : (q : Clarity) (w h : ℕ) (f : ℕ → ℕ → ℕ) (x y : ℕ) → x < w → y < h → getD (blockOf q w h f x y) 4 0 ≡ f x y
 unfolding blockOf blockFrom tagWord moved
-middle-word w h f x y hx hy =
+middle-word q w h f x y hx hy =
     let ex : moved w x (pos 0) ≡ x = omega arith in
     let ey : moved h y (pos 0) ≡ y = omega arith in
     rw (ex, ey)

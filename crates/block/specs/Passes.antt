@@ -10,10 +10,12 @@ use lib.ListN.{length, take, drop}
 use Rattle.picture.specs.Local.{In, narrower}
 use Rattle.picture.specs.Fill.{flat-same, put, take-put, length-put}
 use Rattle.picture.specs.Pipeline as Pipeline
+use Rattle.clarity.specs.declared.Clarity.{Clarity}
+use Rattle.clarity.specs.declared.Clarity.the-variants.{Standard}
 use Rattle.metric.specs.declared.Metric.{Metric}
 use Rattle.metric.specs.declared.Weights.{Weights}
 use Rattle.metric.specs.Metric.{metrics}
-use Rattle.metric.specs.Weight.{weights}
+use Rattle.weight.specs.Weight.{weights}
 use Rattle.junction.specs.declared.Junctions.{Junctions}
 use Rattle.junction.specs.Junction.{junctions}
 use Rattle.tag.specs.declared.Tags.{Tags}
@@ -52,10 +54,11 @@ module _ (w h : ℕ) where
   }
 
   module _ {g v : Grid} (m : ℕ → ℕ → Metric) (l : List Float) (hm : Holds nan ofMetric (λ r. refl) g m l) where
-    pub weights-right : Feeds 1 1 g w h v → (x y : ℕ) → Within v x y → weights w h (metricField g l) x y ≡ weights w h m x y
+    pub weights-right : (q : Clarity) → Feeds 1 1 g w h v → (x y : ℕ) → Within v x y
+        → weights q w h (metricField g l) x y ≡ weights q w h m x y
     unfolding weights Pipeline.weights stages
-    weights-right k x y i =
-        Pipeline.weights-agree stages w h {bx = x} {by = y} {l = 0} {r = 0} {u = 0} {d = 0}
+    weights-right q k x y i =
+        Pipeline.weights-agree (stages q) w h {bx = x} {by = y} {l = 0} {r = 0} {u = 0} {d = 0}
         (metrics-kept g w h x y 1 1 1 1 (fed k x y i) m l hm) x y (here k x y i)
 
     pub junctions-right : {q : Grid} (n : ℕ → ℕ → Weights) (s : List Float) → Holds nan ofWeights (λ r. refl) v n s → Feeds 1 1 g w h q
@@ -63,7 +66,7 @@ module _ (w h : ℕ) where
         → (x y : ℕ) → Within q x y → junctions w h (metricField g l) (weightsField v s) x y ≡ junctions w h m n x y
     unfolding junctions Pipeline.junctions stages
     junctions-right n s hn k k′ x y i =
-        Pipeline.junctions-agree stages w h {bx = x} {by = y} {l = 0} {r = 0} {u = 0} {d = 0}
+        Pipeline.junctions-agree (stages Standard) w h {bx = x} {by = y} {l = 0} {r = 0} {u = 0} {d = 0}
         (metrics-kept g w h x y 1 1 1 1 (fed k x y i) m l hm)
         (weights-kept v w h x y 1 1 1 1 (fed k′ x y i) n s hn) x y (here k x y i)
 
@@ -73,22 +76,22 @@ module _ (w h : ℕ) where
   tags-right {q} n l hn k x y i =
       let e = junctions-kept q w h x y 3 3 3 3 (fed k x y i) n l hn in
       let o = here k x y i in
-      Pipeline.tags-agree stages w h (o .on-x) (o .on-y)
+      Pipeline.tags-agree (stages Standard) w h (o .on-x) (o .on-y)
       (narrower (omega arith) (omega arith) (omega arith) (omega arith) e)
       (narrower (omega arith) (omega arith) (omega arith) (omega arith) e)
 
 -- the passes one after the other
-module _ (w h : ℕ) (f : ℕ → ℕ → ℕ) (g v q t : Grid) (cut from p : ℕ) (s₀ s₁ s₂ : List Float) (b₀ b₁ b₂ : List ℕ)
+module _ (clarity : Clarity) (w h : ℕ) (f : ℕ → ℕ → ℕ) (g v q t : Grid) (cut from p : ℕ) (s₀ s₁ s₂ : List Float) (b₀ b₁ b₂ : List ℕ)
     (rooms : Rooms w h g v q t cut from p (length s₀) (length b₀))
     (e₁ : s₁ ≡ put 0 (rectOf ofMetric g (metrics w h f)) s₀)
-    (e₂ : s₂ ≡ put cut (rectOf ofWeights v (weights w h (metricField g (take cut s₁)))) s₁)
+    (e₂ : s₂ ≡ put cut (rectOf ofWeights v (weights clarity w h (metricField g (take cut s₁)))) s₁)
     (e₃ : b₁ ≡ put 0 (rectOf ofJunctions q (junctions w h (metricField g (take cut s₂)) (weightsField v (drop cut s₂)))) b₀)
     (e₄ : b₂ ≡ put from (rectOf ofTags t (tags w h (junctionsField q (take from b₁)))) b₁) where
   abbrev m : ℕ → ℕ → Metric
   m = metrics w h f
 
   abbrev n : ℕ → ℕ → Weights
-  n = weights w h (metrics w h f)
+  n = weights clarity w h (metrics w h f)
 
   s₁-long : length s₁ ≡ length s₀
   s₁-long =
@@ -102,7 +105,7 @@ module _ (w h : ℕ) (f : ℕ → ℕ → ℕ) (g v q t : Grid) (cut from p : �
   weights-now : s₂ ≡ put cut (rectOf ofWeights v n) s₁
   weights-now =
       e₂ ∙ ap (λ (l : List Float). put cut l s₁)
-      (rect-same ofWeights v _ _ (weights-right w h m (take cut s₁) held-metrics (rooms .to-weights)))
+      (rect-same ofWeights v _ _ (weights-right w h m (take cut s₁) held-metrics clarity (rooms .to-weights)))
 
   front : take cut s₂ ≡ take cut s₁
   front = ap (take cut) weights-now ∙ take-put cut cut (rectOf ofWeights v n) s₁ (omega arith) (omega (arith, s₁-long, rooms .weights-room))
@@ -111,7 +114,7 @@ module _ (w h : ℕ) (f : ℕ → ℕ → ℕ) (g v q t : Grid) (cut from p : �
   held-weights = rw weights-now (holds-drop nan ofWeights (λ r. refl) v n cut s₁ (omega (arith, s₁-long, rooms .weights-room)))
 
   -- and so are the junctions
-  junctions-now : b₁ ≡ put 0 (rectOf ofJunctions q (pictureJunctions w h f)) b₀
+  junctions-now : b₁ ≡ put 0 (rectOf ofJunctions q (pictureJunctions clarity w h f)) b₀
   unfolding pictureJunctions
   junctions-now =
       e₃ ∙ ap (λ (l : List ℕ). put 0 l b₀)
@@ -119,20 +122,20 @@ module _ (w h : ℕ) (f : ℕ → ℕ → ℕ) (g v q t : Grid) (cut from p : �
       (junctions-right w h m (take cut s₂) (rw front held-metrics) n (drop cut s₂) held-weights (rooms .to-junctions)
       (rooms .over-junctions)))
 
-  held-junctions : Holds 0 ofJunctions (λ r. refl) q (pictureJunctions w h f) (take from b₁)
+  held-junctions : Holds 0 ofJunctions (λ r. refl) q (pictureJunctions clarity w h f) (take from b₁)
   held-junctions =
-      holds-take 0 ofJunctions (λ r. refl) q (pictureJunctions w h f) from b₁ (rooms .junctions-room)
-      (rw junctions-now (holds-put 0 ofJunctions (λ r. refl) q (pictureJunctions w h f) b₀))
+      holds-take 0 ofJunctions (λ r. refl) q (pictureJunctions clarity w h f) from b₁ (rooms .junctions-room)
+      (rw junctions-now (holds-put 0 ofJunctions (λ r. refl) q (pictureJunctions clarity w h f) b₀))
 
-  pub passed : Passed w h f g v q t cut from s₀ s₂ b₀ b₂
+  pub passed : Passed clarity w h f g v q t cut from s₀ s₂ b₀ b₂
   unfolding pictureTags
   passed = record {
     singles-are = weights-now ∙ ap (put cut (rectOf ofWeights v n)) e₁;
     bytes-are =
         e₄
         ∙ ap (λ (l : List ℕ). put from l b₁)
-        (rect-same ofTags t _ _ (tags-right w h (pictureJunctions w h f) (take from b₁) held-junctions (rooms .to-tags)))
-        ∙ ap (put from (rectOf ofTags t (pictureTags w h f))) junctions-now;
+        (rect-same ofTags t _ _ (tags-right w h (pictureJunctions clarity w h f) (take from b₁) held-junctions (rooms .to-tags)))
+        ∙ ap (put from (rectOf ofTags t (pictureTags clarity w h f))) junctions-now;
   }
 
 -- ---- the rectangles round a tile, along one axis first: of k places from x on, those within a hold what lies within c of those within b
@@ -196,22 +199,26 @@ module _ {w h x y k r : ℕ} (tile : Tile w h x y k r) where
   }
 
   -- the tags of a tile, read back
-  pub tile-tagged : (f : ℕ → ℕ → ℕ) (b b′ : List ℕ) → tileBytes ≤ length b
-      → b′ ≡ put tileJunctions (rectOf ofTags (tileOf x y k r) (pictureTags w h f))
-      (put 0 (rectOf ofJunctions (ring 3) (pictureJunctions w h f)) b)
-      → TileTagged w h f x y k r b b′
+  pub tile-tagged : (q : Clarity) (f : ℕ → ℕ → ℕ) (b b′ : List ℕ) → tileBytes ≤ length b
+      → b′ ≡ put tileJunctions (rectOf ofTags (tileOf x y k r) (pictureTags q w h f))
+      (put 0 (rectOf ofJunctions (ring 3) (pictureJunctions q w h f)) b)
+      → TileTagged q w h f x y k r b b′
   unfolding tagsField
-  tile-tagged f b b′ hb e = record { is = e; long = ap length e ∙ long-tags ∙ long; each = each }
+  tile-tagged q f b b′ hb e = record { is = e; long = ap length e ∙ long-tags ∙ long; each = each }
     where
       t : ℕ → ℕ → Tags
-      t = pictureTags w h f
+      t = pictureTags q w h f
 
       l : List ℕ
-      l = put 0 (rectOf ofJunctions (ring 3) (pictureJunctions w h f)) b
+      l = put 0 (rectOf ofJunctions (ring 3) (pictureJunctions q w h f)) b
 
       long : length l ≡ length b
-      long = length-put 0 (rectOf ofJunctions (ring 3) (pictureJunctions w h f)) b
-          (omega (arith, rect-length 0 ofJunctions (λ r. refl) (ring 3) (pictureJunctions w h f), ring-held 3 tileJunctions (omega arith)))
+      long = length-put 0 (rectOf ofJunctions (ring 3) (pictureJunctions q w h f)) b
+          (omega (
+            arith,
+            rect-length 0 ofJunctions (λ r. refl) (ring 3) (pictureJunctions q w h f),
+            ring-held 3 tileJunctions (omega arith),
+          ))
 
       long-tags : length (put tileJunctions (rectOf ofTags (tileOf x y k r) t) l) ≡ length l
       long-tags =

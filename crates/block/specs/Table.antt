@@ -1,5 +1,5 @@
 -- The paper's table, T1 to T13, as one theorem: thirteen pairs of what the definitions give and what the
--- paper says, computed at once. Assumes nothing.
+-- paper says, computed at once; the weights are those of the standard setting. Assumes nothing.
 use mathlib.Core.Path.{_≡_, refl}
 use mathlib.Core.Bool.{Bool, true, false, _&&_}
 use mathlib.Core.List.{List, [], _∷_}
@@ -8,10 +8,11 @@ use lib.Dec.{eqb}
 use borrow.Author.Tests.{eqb-true}
 use lib.Ieee.{Float, binary32, ofBits, toBits, add, sub, mul, div, neg, lt, ofInt}
 use lib.ListN.{length, getD}
+use Rattle.clarity.specs.declared.Clarity.the-variants.{Standard}
 use Rattle.single.specs.Single.{f0, f½, f1, maxOf, minOf, clampOf}
 use Rattle.single.specs.Root.{sqrtOf}
 use Rattle.metric.specs.Distance.{distanceOf, weightedOf, norm}
-use Rattle.metric.specs.Weight.{cornerWeightOf}
+use Rattle.weight.specs.Weight.{weightAt, cornerWeightOf}
 use Rattle.tag.specs.Tag.{traceEdges, traceFlags, cornerTag, midTag, if_then_else_}
 use Rattle.tag.specs.Laws.{tagAt0}
 
@@ -39,9 +40,9 @@ table =
     ∷ entry (bits (sqrtOf (single 0x7f7f_ffff))) 0x5f7f_ffff
     ∷ entry (bits (distanceOf 0x0000_0000 0x00ff_ffff)) (bits f1)
     ∷ entry (bits (distanceOf 0xff12_3456 0x0012_3456)) (bits f0)
-    ∷ entry (bits (cornerWeightOf f½ f1 f1 f1 f1)) (bits f0)
-    ∷ entry (bits (cornerWeightOf (single 0x3e80_0000) f1 f½ f0 f1)) 0x3d80_0000
-    ∷ entry (bits (cornerWeightOf (single 0x3e80_0000) f1 f½ f½ f½)) 0x3e80_0000
+    ∷ entry (bits (cornerWeightOf Standard f½ f1 f1 f1 f1)) (bits f0)
+    ∷ entry (bits (cornerWeightOf Standard (single 0x3e80_0000) f1 f½ f0 f1)) 0x3d80_0000
+    ∷ entry (bits (cornerWeightOf Standard (single 0x3e80_0000) f1 f½ f½ f½)) 0x3e80_0000
     ∷ entry (tagAt0 9) 5
     ∷ entry (tagAt0 1) 1
     ∷ []
@@ -53,8 +54,8 @@ agree (e ∷ es) = eqb (e .given) (e .tabled) && agree es
 
 -- the checker computes the thirteen tests
 computed : agree table ≡ true
-unfolding table sqrtOf distanceOf weightedOf norm cornerWeightOf traceEdges traceFlags cornerTag midTag if_then_else_ maxOf minOf clampOf
-    add sub mul div neg lt ofInt ofBits toBits
+unfolding table sqrtOf distanceOf weightedOf norm weightAt cornerWeightOf traceEdges traceFlags cornerTag midTag if_then_else_
+    maxOf minOf clampOf add sub mul div neg lt ofInt ofBits toBits
 computed = refl
 
 front : (a b : Bool) → (a && b) ≡ true → (a ≡ true) × (b ≡ true)

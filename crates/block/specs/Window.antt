@@ -6,8 +6,9 @@ use Prim.Native.Nat.{ℕ, _+_, _-_, _*_, _≤_, _<_, min}
 use lib.Ieee.{Float}
 use lib.ListN.{length, drop}
 use Rattle.picture.specs.Fill.{put}
+use Rattle.clarity.specs.declared.Clarity.{Clarity}
 use Rattle.metric.specs.Metric.{metrics}
-use Rattle.metric.specs.Weight.{weights}
+use Rattle.weight.specs.Weight.{weights}
 use Rattle.grid.specs.declared.Grid.{Grid}
 use Rattle.grid.specs.Grid.{ofMetric, ofWeights, ofJunctions, ofTags, tagsAt, rectOf}
 use Rattle.grid.specs.Room.{Held, Inner, Feeds}
@@ -27,10 +28,12 @@ pub record Rooms (w h : ℕ) (g v q t : Grid) (cut from p s b : ℕ) : Type 0 wh
   pub junctions-room : Held q from
   pub tags-room : from + t .rows * (t .cols * 4) ≤ b
 
--- the records of the picture f, written over the singles s and the bytes b
-pub record Passed (w h : ℕ) (f : ℕ → ℕ → ℕ) (g v q t : Grid) (cut from : ℕ) (s s′ : List Float) (b b′ : List ℕ) : Type 0 where
-  pub singles-are : s′ ≡ put cut (rectOf ofWeights v (weights w h (metrics w h f))) (put 0 (rectOf ofMetric g (metrics w h f)) s)
-  pub bytes-are : b′ ≡ put from (rectOf ofTags t (pictureTags w h f)) (put 0 (rectOf ofJunctions q (pictureJunctions w h f)) b)
+-- the records of the picture f at a setting of clarity, written over the singles s and the bytes b
+pub record Passed (clarity : Clarity) (w h : ℕ) (f : ℕ → ℕ → ℕ) (g v q t : Grid) (cut from : ℕ)
+    (s s′ : List Float) (b b′ : List ℕ) : Type 0 where
+  pub singles-are : s′ ≡ put cut (rectOf ofWeights v (weights clarity w h (metrics w h f))) (put 0 (rectOf ofMetric g (metrics w h f)) s)
+  pub bytes-are : b′ ≡ put from (rectOf ofTags t (pictureTags clarity w h f))
+      (put 0 (rectOf ofJunctions q (pictureJunctions clarity w h f)) b)
 
 -- k by r pixels from (x, y) on, of a picture of at most 2,048 a side
 pub record Tile (w h x y k r : ℕ) : Type 0 where
@@ -67,8 +70,8 @@ abbrev pub tileBytes : ℕ
 tileBytes = 2352
 
 -- the junctions round a tile and after them its tags, written over the bytes b
-pub record TileTagged (w h : ℕ) (f : ℕ → ℕ → ℕ) (x y k r : ℕ) (b b′ : List ℕ) : Type 0 where
-  pub is : b′ ≡ put tileJunctions (rectOf ofTags (tileOf x y k r) (pictureTags w h f))
-      (put 0 (rectOf ofJunctions (ringOf w h x y k r 3) (pictureJunctions w h f)) b)
+pub record TileTagged (q : Clarity) (w h : ℕ) (f : ℕ → ℕ → ℕ) (x y k r : ℕ) (b b′ : List ℕ) : Type 0 where
+  pub is : b′ ≡ put tileJunctions (rectOf ofTags (tileOf x y k r) (pictureTags q w h f))
+      (put 0 (rectOf ofJunctions (ringOf w h x y k r 3) (pictureJunctions q w h f)) b)
   pub long : length b′ ≡ length b
-  pub each : (i j : ℕ) → i < k → j < r → tagsAt (drop tileJunctions b′) ((j * k + i) * 4) ≡ pictureTags w h f (x + i) (y + j)
+  pub each : (i j : ℕ) → i < k → j < r → tagsAt (drop tileJunctions b′) ((j * k + i) * 4) ≡ pictureTags q w h f (x + i) (y + j)

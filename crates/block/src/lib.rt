@@ -1,5 +1,6 @@
 // The passes on rectangles each of which holds what the next one reads, the tags of a tile of pixels from the picture alone, and the
 // word that a tag names.
+use clarity::Clarity;
 use field::junctions_rect;
 use field::metrics_rect;
 use field::weights_rect;
@@ -17,9 +18,6 @@ ghost use Rattle.grid.specs.Room.{Held, Feeds};
 ghost use Rattle.junction.specs.Junction.{junctions};
 ghost use Rattle.block.specs.Block.{tagWord};
 ghost use Rattle.block.specs.Window.{Tile, ringOf, Rooms, Passed, TileTagged, tileBytes};
-
-mod copy;
-pub mod store;
 
 // The most columns and rows of a tile.
 pub const COLUMNS: u32 = 16;
@@ -76,11 +74,12 @@ fn junctions_from(
 }
 
 // The metrics of the rectangle g, the weights of v from `cut` on, the junctions of q, and the tags of t from `from` on: each holds what
-// the next one reads, so all of them are the picture's own.
+// the next one reads, so all of them are the picture's own at that clarity.
 pub fn passes(
     picture: &[u32],
     w: u32,
     h: u32,
+    clarity: Clarity,
     g: Grid,
     v: Grid,
     q: Grid,
@@ -91,19 +90,29 @@ pub fn passes(
     from: usize,
 )
     requires { ⌜ Rooms w h g v q t cut from (length (now picture)) (length (now singles)) (length (now bytes)) ⌝ }
-    ensures { λ _. ⌜ Passed w h (words w (now (picture .entry))) g v q t cut from
+    ensures { λ _. ⌜ Passed clarity w h (words w (now (picture .entry))) g v q t cut from
         (now (singles .entry)) (now (singles .exit)) (now (bytes .entry)) (now (bytes .exit)) ⌝ }
 {
     metrics_rect(picture, w, h, g, singles);
-    weights_rect(singles, cut, g, w, h, v);
+    weights_rect(clarity, singles, cut, g, w, h, v);
     junctions_from(singles, cut, g, v, w, h, q, bytes);
     tags_rect(bytes, from, q, w, h, t);
 }
 
 // The tags of the k by r pixels from (x, y) on, from the picture alone, from the byte TAGS on. Before them stand the junctions round them.
-pub fn tags_tile(picture: &[u32], w: u32, h: u32, x: u32, y: u32, k: u32, r: u32, bytes: &mut [u8])
+pub fn tags_tile(
+    picture: &[u32],
+    w: u32,
+    h: u32,
+    clarity: Clarity,
+    x: u32,
+    y: u32,
+    k: u32,
+    r: u32,
+    bytes: &mut [u8],
+)
     requires { ⌜ (Tile w h x y k r) × ((w * h ≤ length (now picture)) × (tileBytes ≤ length (now bytes))) ⌝ }
-    ensures { λ _. ⌜ TileTagged w h (words w (now (picture .entry))) x y k r (now (bytes .entry)) (now (bytes .exit)) ⌝ }
+    ensures { λ _. ⌜ TileTagged clarity w h (words w (now (picture .entry))) x y k r (now (bytes .entry)) (now (bytes .exit)) ⌝ }
 {
     let g = ring(w, h, x, y, k, r, 5);
     let v = ring(w, h, x, y, k, r, 4);
@@ -115,11 +124,24 @@ pub fn tags_tile(picture: &[u32], w: u32, h: u32, x: u32, y: u32, k: u32, r: u32
         rows: r,
     };
     let mut singles = [0.0f32; SINGLES];
-    passes(picture, w, h, g, v, q, t, &mut singles, CUT, bytes, TAGS);
+    passes(
+        picture,
+        w,
+        h,
+        clarity,
+        g,
+        v,
+        q,
+        t,
+        &mut singles,
+        CUT,
+        bytes,
+        TAGS,
+    );
 }
 
 // The word that a tag names, of those round (x, y).
-fn tag_word(picture: &[u32], w: u32, h: u32, x: u32, y: u32, tag: u8) -> u32
+pub fn tag_word(picture: &[u32], w: u32, h: u32, x: u32, y: u32, tag: u8) -> u32
     ensures { λ r. ⌜ r ≡ tagWord w h (words w (now (picture .entry))) x y tag ⌝ }
 {
     let o = tag::neighbor_offset(tag);

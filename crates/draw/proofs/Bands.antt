@@ -6,6 +6,7 @@ use native.Mathlib.Nat.{le-div-iff-mul-le, div-lt-iff-lt-mul, mod-lt, mul-zero}
 use native.Mathlib.Decide.{decLt}
 use native.Mathlib.Omega.{arith}
 use lib.ListN.{length}
+use Rattle.clarity.specs.declared.Clarity.{Clarity}
 use Rattle.machine.specs.Lists.{setAll, count}
 use Rattle.machine.specs.Screen.{Screen, Lawful, blockWords}
 use Rattle.machine.proofs.Lists.{firstFrom-length}
@@ -53,29 +54,29 @@ end-of w y y′ e n m lo hi c few =
 
 -- ---- a band drawn
 
-module _ (S : Screen) (lawful : Lawful S) (w h : ℕ) {picture : List ℕ} {y y′ n stale : ℕ} {out m : List ℕ} (room : blockWords S * (w * h) ≤ length out)
+module _ (S : Screen) (lawful : Lawful S) (w h : ℕ) (q : Clarity) {picture : List ℕ} {y y′ n stale : ℕ} {out m : List ℕ} (room : blockWords S * (w * h) ≤ length out)
     (up : y * w ≤ y′ * w) (top : y′ * w ≤ w * h) (long : y′ * w ≤ length m) (counted : stale ≡ count (staleIn (y * w) (y′ * w) m)) where
-  pub band-all : {out′ m′ : List ℕ} → stale ≤ n → Swept S w h (Inside w 0 w y y′) picture out m out′ m′
-      → Draws S w h (y * w) (y′ * w) n picture out m out′ m′ stale
+  pub band-all : {out′ m′ : List ℕ} → stale ≤ n → Swept S w h q (Inside w 0 w y y′) picture out m out′ m′
+      → Draws S w h q (y * w) (y′ * w) n picture out m out′ m′ stale
   band-all few s = record {
     stale-before = counted;
     draws =
-        swept-done S lawful w h (y * w) (y′ * w) n
-        (swept-as S w h picture (λ b i. rows-run w (omega (arith, i .right)) y y′ b i) (λ b r. run-rows w (some-of w y′ b (r .1)) y y′ b r) s)
+        swept-done S lawful w h q (y * w) (y′ * w) n
+        (swept-as S w h q picture (λ b i. rows-run w (omega (arith, i .right)) y y′ b i) (λ b r. run-rows w (some-of w y′ b (r .1)) y y′ b r) s)
         room up top long (omega (arith, counted));
   }
 
   -- whole rows and the first blocks of a row, before the block e
   pub band-part : {out′ m′ out″ m″ : List ℕ} (e : ℕ) → End w y y′ e → y * w ≤ e → e ≤ y′ * w → count (staleIn (y * w) e m) ≡ n
-      → Swept S w h (Inside w 0 w y (e / w)) picture out m out′ m′
-      → Swept S w h (Inside w 0 (e % w) (e / w) (e / w + 1)) picture out′ m′ out″ m″
-      → Draws S w h (y * w) (y′ * w) n picture out m out″ m″ stale
+      → Swept S w h q (Inside w 0 w y (e / w)) picture out m out′ m′
+      → Swept S w h q (Inside w 0 (e % w) (e / w) (e / w + 1)) picture out′ m′ out″ m″
+      → Draws S w h q (y * w) (y′ * w) n picture out m out″ m″ stale
   band-part e end lo hi c s t = record {
     stale-before = counted;
     draws =
-        draws-same S w h picture (sym all) refl refl
-        (swept-done S lawful w h (y * w) e n
-        (swept-two S w h picture (whole-before w (end .some) y e lo) (last-before w (end .some) y e lo) (before-end w (end .some) y e lo) s t)
+        draws-same S w h q picture (sym all) refl refl
+        (swept-done S lawful w h q (y * w) e n
+        (swept-two S w h q picture (whole-before w (end .some) y e lo) (last-before w (end .some) y e lo) (before-end w (end .some) y e lo) s t)
         room lo (omega (arith, top)) (omega (arith, long)) (omega (arith, c)));
   }
     where

@@ -4,6 +4,7 @@ use mathlib.Core.List.{List, [], _++_}
 use Prim.Native.Nat.{ℕ, _+_, _-_, _*_, _≤_}
 use native.Mathlib.Omega.{arith}
 use lib.ListN.{length, take}
+use Rattle.clarity.specs.declared.Clarity.{Clarity}
 use Rattle.machine.specs.Lists.{setAll, count}
 use Rattle.machine.specs.Screen.{Screen}
 use Rattle.machine.specs.Machine.{putAll}
@@ -24,45 +25,45 @@ lent-still l e f = record {
   for-marks = omega (arith, l .for-marks, f);
 }
 
-module _ (S : Screen) (w h : ℕ) (picture : List ℕ) where
+module _ (S : Screen) (w h : ℕ) (q : Clarity) (picture : List ℕ) where
   -- lists of blocks
-  pub draws-none : (out m : List ℕ) → DrawsAll S w h [] picture out m out m
+  pub draws-none : (out m : List ℕ) → DrawsAll S w h q [] picture out m out m
   draws-none out m = record { output-now = refl; marks-now = refl }
 
-  pub draws-two : {bs cs out m out′ m′ out″ m″ : List ℕ} → DrawsAll S w h bs picture out m out′ m′ → DrawsAll S w h cs picture out′ m′ out″ m″
-      → DrawsAll S w h (bs ++ cs) picture out m out″ m″
+  pub draws-two : {bs cs out m out′ m′ out″ m″ : List ℕ} → DrawsAll S w h q bs picture out m out′ m′ → DrawsAll S w h q cs picture out′ m′ out″ m″
+      → DrawsAll S w h q (bs ++ cs) picture out m out″ m″
   draws-two {bs} {cs} {out} {m} k l = record {
     output-now =
-        l .output-now ∙ ap (putAll S w h (take (w * h) picture) cs) (k .output-now) ∙ sym (putAll-two S w h (take (w * h) picture) bs cs out);
+        l .output-now ∙ ap (putAll S w h q (take (w * h) picture) cs) (k .output-now) ∙ sym (putAll-two S w h q (take (w * h) picture) bs cs out);
     marks-now = l .marks-now ∙ ap (setAll cs 0) (k .marks-now) ∙ sym (setAll-two bs cs 0 m);
   }
 
   -- the same blocks, and what equals what they leave
-  pub draws-same : {bs cs out m out′ m′ out″ m″ : List ℕ} → bs ≡ cs → out″ ≡ out′ → m″ ≡ m′ → DrawsAll S w h bs picture out m out′ m′
-      → DrawsAll S w h cs picture out m out″ m″
+  pub draws-same : {bs cs out m out′ m′ out″ m″ : List ℕ} → bs ≡ cs → out″ ≡ out′ → m″ ≡ m′ → DrawsAll S w h q bs picture out m out′ m′
+      → DrawsAll S w h q cs picture out m out″ m″
   draws-same {bs} {cs} {out} {m} e eo em k = record {
-    output-now = eo ∙ k .output-now ∙ ap (λ (l : List ℕ). putAll S w h (take (w * h) picture) l out) e;
+    output-now = eo ∙ k .output-now ∙ ap (λ (l : List ℕ). putAll S w h q (take (w * h) picture) l out) e;
     marks-now = em ∙ k .marks-now ∙ ap (λ (l : List ℕ). setAll l 0 m) e;
   }
 
-  module _ {bs out m out′ m′ : List ℕ} (k : DrawsAll S w h bs picture out m out′ m′) where
+  module _ {bs out m out′ m′ : List ℕ} (k : DrawsAll S w h q bs picture out m out′ m′) where
     pub draws-output-length : length out′ ≡ length out
-    draws-output-length = ap length (k .output-now) ∙ length-putAll S w h (take (w * h) picture) bs out
+    draws-output-length = ap length (k .output-now) ∙ length-putAll S w h q (take (w * h) picture) bs out
 
     pub draws-marks-length : length m′ ≡ length m
     draws-marks-length = ap length (k .marks-now) ∙ length-setAll bs 0 m
 
   -- where none is to be drawn
-  pub first-none : {lo hi n c : ℕ} (out m : List ℕ) → c ≡ count (staleIn lo hi m) → chosen lo hi n m ≡ [] → Draws S w h lo hi n picture out m out m c
+  pub first-none : {lo hi n c : ℕ} (out m : List ℕ) → c ≡ count (staleIn lo hi m) → chosen lo hi n m ≡ [] → Draws S w h q lo hi n picture out m out m c
   first-none out m e none = record { stale-before = e; draws = draws-same (sym none) refl refl (draws-none out m) }
 
   -- no more were stale than there are
-  pub first-few : {lo hi n c : ℕ} {out m out′ m′ : List ℕ} → hi ≤ length m → Draws S w h lo hi n picture out m out′ m′ c → c ≤ hi - lo
+  pub first-few : {lo hi n c : ℕ} {out m out′ m′ : List ℕ} → hi ≤ length m → Draws S w h q lo hi n picture out m out′ m′ c → c ≤ hi - lo
   first-few {lo} {hi} {n} {c} {out} {m} l k = omega (arith, k .stale-before, count-run-le lo hi m l)
 
   -- the first n stale blocks: of those before i, and then of those from i on
   pub first-more : {i j n s c t : ℕ} {out m out′ m′ out″ m″ : List ℕ} → i ≤ j → j ≤ length m → t ≡ s + c
-      → Draws S w h 0 i n picture out m out′ m′ s → Draws S w h i j (n - s) picture out′ m′ out″ m″ c → Draws S w h 0 j n picture out m out″ m″ t
+      → Draws S w h q 0 i n picture out m out′ m′ s → Draws S w h q i j (n - s) picture out′ m′ out″ m″ c → Draws S w h q 0 j n picture out m out″ m″ t
   first-more {i} {j} {n} {s} {c} {t} {out} {m} {out′} {m′} a l e k q = record {
     stale-before =
         e ∙ ap₂ _+_ (k .stale-before) (q .stale-before ∙ ap count same) ∙ sym (count-split 0 i j m (omega arith) a);

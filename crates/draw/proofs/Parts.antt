@@ -8,6 +8,7 @@ use native.Mathlib.Nat.{div-add-mod', le-div-iff-mul-le, div-lt-iff-lt-mul, mod-
 use native.Mathlib.Decide.{decLt}
 use native.Mathlib.Omega.{arith}
 use lib.ListN.{length, getD, replicate, getD-replicate}
+use Rattle.clarity.specs.declared.Clarity.{Clarity}
 use Rattle.machine.specs.Lists.{has}
 use Rattle.machine.specs.Screen.{Screen}
 use Rattle.machine.specs.Calls.{isStale}
@@ -85,32 +86,32 @@ wider p q r s i = record {
   below = omega (arith, i .below);
 }
 
-module _ (S : Screen) (w h : ℕ) (picture : List ℕ) {x x′ y y′ : ℕ} {out m out′ m′ out″ m″ : List ℕ} where
-  pub swept-columns : (u : ℕ) → x ≤ u → u ≤ x′ → Swept S w h (Inside w x u y y′) picture out m out′ m′
-      → Swept S w h (Inside w u x′ y y′) picture out′ m′ out″ m″ → Swept S w h (Inside w x x′ y y′) picture out m out″ m″
-  swept-columns u p q =
-      swept-two S w h picture (λ b i. wider (omega arith) q (omega arith) (omega arith) i) (λ b i. wider p (omega arith) (omega arith) (omega arith) i)
+module _ (S : Screen) (w h : ℕ) (q : Clarity) (picture : List ℕ) {x x′ y y′ : ℕ} {out m out′ m′ out″ m″ : List ℕ} where
+  pub swept-columns : (u : ℕ) → x ≤ u → u ≤ x′ → Swept S w h q (Inside w x u y y′) picture out m out′ m′
+      → Swept S w h q (Inside w u x′ y y′) picture out′ m′ out″ m″ → Swept S w h q (Inside w x x′ y y′) picture out m out″ m″
+  swept-columns u p r =
+      swept-two S w h q picture (λ b i. wider (omega arith) r (omega arith) (omega arith) i) (λ b i. wider p (omega arith) (omega arith) (omega arith) i)
       (λ b i. by-column b i (decLt (b % w) u))
     where
       by-column : (b : ℕ) → Inside w x x′ y y′ b → Dec (b % w < u) → Inside w x u y y′ b ⊎ Inside w u x′ y y′ b
       by-column b i (yes l) = inl (record { left = i .left; right = l; above = i .above; below = i .below })
       by-column b i (no l) = inr (record { left = omega arith; right = i .right; above = i .above; below = i .below })
 
-  pub swept-rows : (v : ℕ) → y ≤ v → v ≤ y′ → Swept S w h (Inside w x x′ y v) picture out m out′ m′
-      → Swept S w h (Inside w x x′ v y′) picture out′ m′ out″ m″ → Swept S w h (Inside w x x′ y y′) picture out m out″ m″
-  swept-rows v p q =
-      swept-two S w h picture (λ b i. wider (omega arith) (omega arith) (omega arith) q i) (λ b i. wider (omega arith) (omega arith) p (omega arith) i)
+  pub swept-rows : (v : ℕ) → y ≤ v → v ≤ y′ → Swept S w h q (Inside w x x′ y v) picture out m out′ m′
+      → Swept S w h q (Inside w x x′ v y′) picture out′ m′ out″ m″ → Swept S w h q (Inside w x x′ y y′) picture out m out″ m″
+  swept-rows v p r =
+      swept-two S w h q picture (λ b i. wider (omega arith) (omega arith) (omega arith) r i) (λ b i. wider (omega arith) (omega arith) p (omega arith) i)
       (λ b i. by-row b i (decLt (b / w) v))
     where
       by-row : (b : ℕ) → Inside w x x′ y y′ b → Dec (b / w < v) → Inside w x x′ y v b ⊎ Inside w x x′ v y′ b
       by-row b i (yes l) = inl (record { left = i .left; right = i .right; above = i .above; below = l })
       by-row b i (no l) = inr (record { left = i .left; right = i .right; above = omega arith; below = i .below })
 
-module _ (S : Screen) (w h : ℕ) (picture : List ℕ) {out m out′ m′ : List ℕ} where
+module _ (S : Screen) (w h : ℕ) (q : Clarity) (picture : List ℕ) {out m out′ m′ : List ℕ} where
   -- n stale blocks side by side
   pub run-swept : (x x′ y n : ℕ) → 0 < n → x′ ≡ x + n → x′ ≤ w → staleIn (y * w + x) (y * w + x + n) m ≡ replicate n true
-      → DrawsAll S w h (blocksFrom (y * w + x) n) picture out m out′ m′ → Swept S w h (Inside w x x′ y (y + 1)) picture out m out′ m′
-  run-swept x x′ y n p to l e d = swept-all S w h picture d inside all stale
+      → DrawsAll S w h q (blocksFrom (y * w + x) n) picture out m out′ m′ → Swept S w h q (Inside w x x′ y (y + 1)) picture out m out′ m′
+  run-swept x x′ y n p to l e d = swept-all S w h q picture d inside all stale
     where
       some : 0 < w
       some = omega arith
@@ -142,18 +143,18 @@ module _ (S : Screen) (w h : ℕ) (picture : List ℕ) {out m out′ m′ : List
   -- a window whose stale blocks all lie in columns x to u - 1 and rows v to v′ - 1 of it
   pub window-swept : (x x′ y y′ u v v′ : ℕ) → x ≤ u → u ≤ x′ → y ≤ v → v ≤ v′ → v′ ≤ y′
       → Clear w x x′ y v m → Clear w u x′ v v′ m → Clear w x x′ v′ y′ m
-      → Swept S w h (Inside w x (x + (u - x)) v (v + (v′ - v))) picture out m out′ m′ → Swept S w h (Inside w x x′ y y′) picture out m out′ m′
-  window-swept x x′ y y′ u v v′ p q r s t above right below k =
-      swept-rows S w h picture v r (omega arith) (swept-none S w h picture out m above)
-      (swept-rows S w h picture v′ s t (swept-columns S w h picture u p q tile (after right)) (after below))
+      → Swept S w h q (Inside w x (x + (u - x)) v (v + (v′ - v))) picture out m out′ m′ → Swept S w h q (Inside w x x′ y y′) picture out m out′ m′
+  window-swept x x′ y y′ u v v′ p p′ r s t above right below k =
+      swept-rows S w h q picture v r (omega arith) (swept-none S w h q picture out m above)
+      (swept-rows S w h q picture v′ s t (swept-columns S w h q picture u p p′ tile (after right)) (after below))
     where
-      tile : Swept S w h (Inside w x u v v′) picture out m out′ m′
+      tile : Swept S w h q (Inside w x u v v′) picture out m out′ m′
       tile =
-          swept-as S w h picture (λ b i. wider (omega arith) (omega arith) (omega arith) (omega arith) i)
+          swept-as S w h q picture (λ b i. wider (omega arith) (omega arith) (omega arith) (omega arith) i)
           (λ b i. wider (omega arith) (omega arith) (omega arith) (omega arith) i) k
 
-      after : {a a′ c c′ : ℕ} → Clear w a a′ c c′ m → Swept S w h (Inside w a a′ c c′) picture out′ m′ out′ m′
-      after f = swept-none S w h picture out′ m′ (λ b i. stays-clear S w h picture (k .draws) b (f b i))
+      after : {a a′ c c′ : ℕ} → Clear w a a′ c c′ m → Swept S w h q (Inside w a a′ c c′) picture out′ m′ out′ m′
+      after f = swept-none S w h q picture out′ m′ (λ b i. stays-clear S w h q picture (k .draws) b (f b i))
 
 -- a part of the picture lies within the marks
 pub part-of : (w h x x′ y y′ : ℕ) (m : List ℕ) → w ≤ 2048 → h ≤ 2048 → w * h ≤ length m → x ≤ x′ → x′ ≤ w → y ≤ y′ → y′ ≤ h → Part w x x′ y y′ m

@@ -7,6 +7,7 @@ use mathlib.Core.List.{List, [], _++_}
 use Prim.Native.Nat.{ℕ, _+_, _-_, _*_, _≤_, _<_}
 use native.Mathlib.Omega.{arith}
 use lib.ListN.{length, getD, take}
+use Rattle.clarity.specs.declared.Clarity.{Clarity}
 use Rattle.machine.specs.Lists.{has, count}
 use Rattle.machine.specs.Screen.{Screen, Lawful, blockWords}
 use Rattle.machine.specs.Calls.{isStale}
@@ -31,27 +32,27 @@ still-clear false x e = e
 
 -- ---- parts
 
-module _ (S : Screen) (w h : ℕ) (picture : List ℕ) where
+module _ (S : Screen) (w h : ℕ) (q : Clarity) (picture : List ℕ) where
   -- a mark once some blocks are drawn
-  mark-now : {bs out m out′ m′ : List ℕ} → DrawsAll S w h bs picture out m out′ m′ → (b : ℕ) → getD m′ b 0 ≡ cond (has bs b) 0 (getD m b 0)
+  mark-now : {bs out m out′ m′ : List ℕ} → DrawsAll S w h q bs picture out m out′ m′ → (b : ℕ) → getD m′ b 0 ≡ cond (has bs b) 0 (getD m b 0)
   mark-now {bs} {out} {m} d b = ap (λ (l : List ℕ). getD l b 0) (d .marks-now) ∙ getD-setAll bs m b
 
-  pub stays-clear : {bs out m out′ m′ : List ℕ} → DrawsAll S w h bs picture out m out′ m′ → (b : ℕ) → getD m b 0 ≡ 0 → getD m′ b 0 ≡ 0
+  pub stays-clear : {bs out m out′ m′ : List ℕ} → DrawsAll S w h q bs picture out m out′ m′ → (b : ℕ) → getD m b 0 ≡ 0 → getD m′ b 0 ≡ 0
   stays-clear {bs} {out} {m} d b e = mark-now d b ∙ still-clear (has bs b) (getD m b 0) e
 
   -- a part with nothing stale
-  pub swept-none : {R : ℕ → Type 0} (out m : List ℕ) → ((b : ℕ) → R b → getD m b 0 ≡ 0) → Swept S w h R picture out m out m
+  pub swept-none : {R : ℕ → Type 0} (out m : List ℕ) → ((b : ℕ) → R b → getD m b 0 ≡ 0) → Swept S w h q R picture out m out m
   swept-none out m c = record {
     blocks = [];
     inside = λ b e. absurd (false≢true e);
     was-stale = λ b e. absurd (false≢true e);
-    draws = draws-none S w h picture out m;
+    draws = draws-none S w h q picture out m;
     clear = c;
   }
 
   -- a part that is all stale
-  pub swept-all : {R : ℕ → Type 0} {bs out m out′ m′ : List ℕ} → DrawsAll S w h bs picture out m out′ m′ → ((b : ℕ) → has bs b ≡ true → R b)
-      → ((b : ℕ) → R b → has bs b ≡ true) → ((b : ℕ) → R b → isStale (getD m b 0) ≡ true) → Swept S w h R picture out m out′ m′
+  pub swept-all : {R : ℕ → Type 0} {bs out m out′ m′ : List ℕ} → DrawsAll S w h q bs picture out m out′ m′ → ((b : ℕ) → has bs b ≡ true → R b)
+      → ((b : ℕ) → R b → has bs b ≡ true) → ((b : ℕ) → R b → isStale (getD m b 0) ≡ true) → Swept S w h q R picture out m out′ m′
   swept-all {R} {bs} {out} {m} d i c s = record {
     blocks = bs;
     inside = i;
@@ -62,13 +63,13 @@ module _ (S : Screen) (w h : ℕ) (picture : List ℕ) where
 
   -- two parts, one after the other
   pub swept-two : {R R₁ R₂ : ℕ → Type 0} {out m out′ m′ out″ m″ : List ℕ} → ((b : ℕ) → R₁ b → R b) → ((b : ℕ) → R₂ b → R b)
-      → ((b : ℕ) → R b → R₁ b ⊎ R₂ b) → Swept S w h R₁ picture out m out′ m′ → Swept S w h R₂ picture out′ m′ out″ m″
-      → Swept S w h R picture out m out″ m″
+      → ((b : ℕ) → R b → R₁ b ⊎ R₂ b) → Swept S w h q R₁ picture out m out′ m′ → Swept S w h q R₂ picture out′ m′ out″ m″
+      → Swept S w h q R picture out m out″ m″
   swept-two {R} {R₁} {R₂} {out} {m} {out′} {m′} {out″} {m″} one two either s t = record {
     blocks = s .blocks ++ t .blocks;
     inside = λ b e. ⊎-elim (λ f. one b (s .inside b f)) (λ f. two b (t .inside b f)) (append-cases (s .blocks) (t .blocks) b e);
     was-stale = λ b e. ⊎-elim (s .was-stale b) (λ f. before b (t .was-stale b f)) (append-cases (s .blocks) (t .blocks) b e);
-    draws = draws-two S w h picture (s .draws) (t .draws);
+    draws = draws-two S w h q picture (s .draws) (t .draws);
     clear = λ b r. ⊎-elim (λ q. stays-clear (t .draws) b (s .clear b q)) (t .clear b) (either b r);
   }
     where
@@ -77,7 +78,7 @@ module _ (S : Screen) (w h : ℕ) (picture : List ℕ) where
 
   -- the same part, said otherwise
   pub swept-as : {R R′ : ℕ → Type 0} {out m out′ m′ : List ℕ} → ((b : ℕ) → R b → R′ b) → ((b : ℕ) → R′ b → R b)
-      → Swept S w h R picture out m out′ m′ → Swept S w h R′ picture out m out′ m′
+      → Swept S w h q R picture out m out′ m′ → Swept S w h q R′ picture out m out′ m′
   swept-as to back s = record {
     blocks = s .blocks;
     inside = λ b e. to b (s .inside b e);
@@ -92,13 +93,13 @@ module _ (S : Screen) (w h : ℕ) (picture : List ℕ) where
 abbrev pub Run : ℕ → ℕ → ℕ → Type 0
 Run lo hi b = (lo ≤ b) × (b < hi)
 
-pub swept-done : (S : Screen) → Lawful S → (w h lo hi n : ℕ) {picture out m out′ m′ : List ℕ} → Swept S w h (Run lo hi) picture out m out′ m′
+pub swept-done : (S : Screen) → Lawful S → (w h : ℕ) (q : Clarity) (lo hi n : ℕ) {picture out m out′ m′ : List ℕ} → Swept S w h q (Run lo hi) picture out m out′ m′
     → blockWords S * (w * h) ≤ length out → lo ≤ hi → hi ≤ w * h → hi ≤ length m → count (staleIn lo hi m) ≤ n
-    → DrawsAll S w h (chosen lo hi n m) picture out m out′ m′
-swept-done S L w h lo hi n {picture} {out} {m} {out′} {m′} s room up top long few = record {
+    → DrawsAll S w h q (chosen lo hi n m) picture out m out′ m′
+swept-done S L w h q lo hi n {picture} {out} {m} {out′} {m′} s room up top long few = record {
   output-now =
       s .draws .output-now
-      ∙ putAll-same S L w h (take (w * h) picture) (s .blocks) (chosen lo hi n m) out
+      ∙ putAll-same S L w h q (take (w * h) picture) (s .blocks) (chosen lo hi n m) out
       (below-of (w * h) (s .blocks) (λ b e. omega (arith, s .inside b e))) (low (w * h) top) room same;
   marks-now = s .draws .marks-now ∙ setAll-same (s .blocks) (chosen lo hi n m) m same;
 }

@@ -8,17 +8,18 @@ use native.Mathlib.Omega.{arith}
 use lib.ListN.{length, take, drop, length-drop}
 use lib.Seq.{take-all}
 use Rattle.picture.specs.Picture.{words}
+use Rattle.clarity.specs.declared.Clarity.{Clarity}
 use Rattle.grid.specs.Grid.{tagsAt}
 use Rattle.block.specs.Block.{pictureTags}
-use Rattle.block.specs.Store.{RowRoom}
+use Rattle.stored.specs.Store.{RowRoom}
 use Rattle.block.specs.Window.{Tile, TileTagged, tileJunctions, tileBytes}
 use Rattle.machine.specs.Screen.{place}
 use Rattle.three.specs.Three.{screen3}
 use Rattle.draw.specs.Steps.{RowTags, TileTags}
 
-pub tile-tags : (w h x y k r : ℕ) (p b b′ : List ℕ) → TileTagged w h (words w p) x y k r b b′ → Tile w h x y k r → length b ≡ tileBytes
-    → TileTags w h p x y k r (take 768 (drop tileJunctions b′))
-tile-tags w h x y k r p b b′ t m e j hj =
+pub tile-tags : (w h : ℕ) (q : Clarity) (x y k r : ℕ) (p b b′ : List ℕ) → TileTagged q w h (words w p) x y k r b b′ → Tile w h x y k r → length b ≡ tileBytes
+    → TileTags w h q p x y k r (take 768 (drop tileJunctions b′))
+tile-tags w h q x y k r p b b′ t m e j hj =
     let n : length (drop tileJunctions b′) ≡ 768 = omega (arith, length-drop tileJunctions b′, t .long) in
     let s : take 768 (drop tileJunctions b′) ≡ drop tileJunctions b′ = take-all 768 (drop tileJunctions b′) (omega (arith, n)) in
     let few : j + 1 ≤ 12 = omega (arith, m .few-rows) in
@@ -29,21 +30,21 @@ tile-tags w h x y k r p b b′ t m e j hj =
       down = omega (arith, m .down);
       long = omega (arith, ap length s, n, rows, add-mul j 1 (k * 4));
       each = λ i c.
-          let q : j * (k * 4) + i * 4 ≡ (j * k + i) * 4 = omega (arith, mul-assoc j k 4) in
-          ap (λ (l : List ℕ). tagsAt l (j * (k * 4) + i * 4)) s ∙ ap (tagsAt (drop tileJunctions b′)) q ∙ t .each i j c hj;
+          let at : j * (k * 4) + i * 4 ≡ (j * k + i) * 4 = omega (arith, mul-assoc j k 4) in
+          ap (λ (l : List ℕ). tagsAt l (j * (k * 4) + i * 4)) s ∙ ap (tagsAt (drop tileJunctions b′)) at ∙ t .each i j c hj;
     }
 
 -- n of a row's tags, from its pixel i on
-pub tags-from : (w h x y k from i n : ℕ) (p tags : List ℕ) → i + n ≤ k → RowTags w h p x y k from tags
-    → RowTags w h p (x + i) y n (from + 4 * i) tags
-tags-from w h x y k from i n p tags l t = record {
+pub tags-from : (w h : ℕ) (q : Clarity) (x y k from i n : ℕ) (p tags : List ℕ) → i + n ≤ k → RowTags w h q p x y k from tags
+    → RowTags w h q p (x + i) y n (from + 4 * i) tags
+tags-from w h q x y k from i n p tags l t = record {
   along = omega (arith, t .along);
   down = t .down;
   long = omega (arith, t .long);
   each = λ j c.
       let e : from + 4 * i + j * 4 ≡ from + (i + j) * 4 = omega arith in
-      let q : x + (i + j) ≡ x + i + j = omega arith in
-      ap (tagsAt tags) e ∙ t .each (i + j) (omega arith) ∙ ap (λ (c : ℕ). pictureTags w h (words w p) c y) q;
+      let at : x + (i + j) ≡ x + i + j = omega arith in
+      ap (tagsAt tags) e ∙ t .each (i + j) (omega arith) ∙ ap (λ (c : ℕ). pictureTags q w h (words w p) c y) at;
 }
 
 pub run-room : (w h x y n from p t o : ℕ) → x + n ≤ w → y < h → w * h ≤ p → from + n * 4 ≤ t → 9 * (w * h) ≤ o

@@ -1,6 +1,7 @@
 // The first n stale blocks drawn, in row order. Rows with nothing stale are passed over; from a row with a stale block on, as many rows
 // as a tile has are drawn as a band. What is drawn is said over a screen; how a block is drawn (tile.rt) is the three-times screen's.
 use block::ROWS;
+use clarity::Clarity;
 use marks::count_stale;
 use marks::stale_end;
 use part::draw_part;
@@ -21,13 +22,14 @@ fn draw_band(
     marks: &mut [u8],
     w: u32,
     h: u32,
+    clarity: Clarity,
     y: u32,
     bottom: u32,
     n: u32,
 ) -> u32
     requires { ⌜ ((y < bottom) × ((bottom ≤ h) × (bottom ≤ y + 12)))
         × Lent screen3 w h (length (now picture)) (length (now output)) (length (now marks)) ⌝ }
-    ensures { λ r. ⌜ Draws screen3 w h (y * w) (bottom * w) n (now (picture .entry)) (now (output .entry)) (now (marks .entry))
+    ensures { λ r. ⌜ Draws screen3 w h clarity (y * w) (bottom * w) n (now (picture .entry)) (now (output .entry)) (now (marks .entry))
         (now (output .exit)) (now (marks .exit)) r ⌝ }
 {
     let width = w as usize;
@@ -35,19 +37,20 @@ fn draw_band(
     let hi = (bottom as usize) * width;
     let stale = count_stale(marks, lo, hi);
     if stale <= n {
-        draw_part(picture, output, marks, w, h, w, y, bottom);
+        draw_part(picture, output, marks, w, h, clarity, w, y, bottom);
         return stale;
     }
     // The n-th of them ends the slice: the rows above it are drawn whole, and its own row as far as that.
     let end = stale_end(marks, lo, hi, n);
     let row = (end / width) as u32;
-    draw_part(picture, output, marks, w, h, w, y, row);
+    draw_part(picture, output, marks, w, h, clarity, w, y, row);
     draw_part(
         picture,
         output,
         marks,
         w,
         h,
+        clarity,
         (end % width) as u32,
         row,
         row + 1,
@@ -63,10 +66,11 @@ pub fn draw_first(
     marks: &mut [u8],
     w: u32,
     h: u32,
+    clarity: Clarity,
     n: u32,
 ) -> u32
     requires { ⌜ Lent screen3 w h (length (now picture)) (length (now output)) (length (now marks)) ⌝ }
-    ensures { λ r. ⌜ Draws screen3 w h 0 (w * h) n (now (picture .entry)) (now (output .entry)) (now (marks .entry))
+    ensures { λ r. ⌜ Draws screen3 w h clarity 0 (w * h) n (now (picture .entry)) (now (output .entry)) (now (marks .entry))
         (now (output .exit)) (now (marks .exit)) r ⌝ }
 {
     let width = w as usize;
@@ -78,7 +82,7 @@ pub fn draw_first(
             y += 1;
         } else {
             let bottom = least(y + ROWS, h);
-            stale += draw_band(picture, output, marks, w, h, y, bottom, n - stale);
+            stale += draw_band(picture, output, marks, w, h, clarity, y, bottom, n - stale);
             y = bottom;
         }
     }

@@ -2,6 +2,7 @@
 // has.
 use super::tile::draw_tile;
 use block::COLUMNS;
+use clarity::Clarity;
 use marks::column_end;
 use marks::first_column;
 use marks::first_row;
@@ -22,19 +23,31 @@ fn draw_window(
     marks: &mut [u8],
     w: u32,
     h: u32,
+    clarity: Clarity,
     x: u32,
     end: u32,
     y: u32,
     bottom: u32,
 )
     requires { ⌜ (Window w h x end y bottom) × Lent screen3 w h (length (now picture)) (length (now output)) (length (now marks)) ⌝ }
-    ensures { λ _. ⌜ Swept screen3 w h (Inside w x end y bottom) (now (picture .entry)) (now (output .entry)) (now (marks .entry))
+    ensures { λ _. ⌜ Swept screen3 w h clarity (Inside w x end y bottom) (now (picture .entry)) (now (output .entry)) (now (marks .entry))
         (now (output .exit)) (now (marks .exit)) ⌝ }
 {
     let top = first_row(marks, w, x, end, y, bottom);
     let low = row_end(marks, w, x, end, top, bottom);
     let right = column_end(marks, w, x, end, top, low);
-    draw_tile(picture, output, marks, w, h, x, top, right - x, low - top);
+    draw_tile(
+        picture,
+        output,
+        marks,
+        w,
+        h,
+        clarity,
+        x,
+        top,
+        right - x,
+        low - top,
+    );
 }
 
 // The stale blocks of rows y to bottom - 1 before column `end` drawn, and no longer stale.
@@ -44,13 +57,14 @@ pub fn draw_part(
     marks: &mut [u8],
     w: u32,
     h: u32,
+    clarity: Clarity,
     end: u32,
     y: u32,
     bottom: u32,
 )
     requires { ⌜ ((end ≤ w) × ((y ≤ bottom) × ((bottom ≤ h) × (bottom ≤ y + 12))))
         × Lent screen3 w h (length (now picture)) (length (now output)) (length (now marks)) ⌝ }
-    ensures { λ _. ⌜ Swept screen3 w h (Inside w 0 end y bottom) (now (picture .entry)) (now (output .entry)) (now (marks .entry))
+    ensures { λ _. ⌜ Swept screen3 w h clarity (Inside w 0 end y bottom) (now (picture .entry)) (now (output .entry)) (now (marks .entry))
         (now (output .exit)) (now (marks .exit)) ⌝ }
 {
     if y == bottom {
@@ -59,7 +73,7 @@ pub fn draw_part(
     let mut x = first_column(marks, w, 0, end, y, bottom);
     while x < end {
         let to = least(x + COLUMNS, end);
-        draw_window(picture, output, marks, w, h, x, to, y, bottom);
+        draw_window(picture, output, marks, w, h, clarity, x, to, y, bottom);
         x = first_column(marks, w, to, end, y, bottom);
     }
 }

@@ -1,10 +1,11 @@
 // A tile: a rectangle of blocks that share their tags' work. Of its blocks the stale ones are drawn, and the others keep their words.
 use block::BYTES;
 use block::TAGS;
-use block::store::put_row;
 use block::tags_tile;
+use clarity::Clarity;
 use marks::clear_run;
 use marks::stale_run;
+use stored::put_row;
 use three::corner;
 ghost use Prim.Native.Nat.{_+_, _*_, _<_};
 ghost use lib.ListN.{length};
@@ -14,23 +15,25 @@ ghost use Rattle.marks.specs.Marks.{blocksFrom, Inside};
 ghost use Rattle.three.specs.Three.{screen3};
 ghost use Rattle.draw.specs.Steps.{DrawsAll, Swept, RowTags, TileTags};
 
-// The n blocks from (x, y) on drawn by their tags, which start at byte `from`, and no longer stale.
+// The n blocks from (x, y) on drawn by their tags, which start at byte `from`, and no longer stale. The tags are those of the setting,
+// which here only the contract reads.
 fn draw_run(
     picture: &[u32],
     output: &mut [u32],
     marks: &mut [u8],
     w: u32,
     h: u32,
+    clarity: Clarity,
     x: u32,
     y: u32,
     n: u32,
     tags: &[u8],
     from: usize,
 )
-    requires { ⌜ ((0 < n) × RowTags w h (now picture) x y n from (now tags))
+    requires { ⌜ ((0 < n) × RowTags w h clarity (now picture) x y n from (now tags))
         × Lent screen3 w h (length (now picture)) (length (now output)) (length (now marks)) ⌝ }
-    ensures { λ _. ⌜ DrawsAll screen3 w h (blocksFrom (y * w + x) n) (now (picture .entry)) (now (output .entry)) (now (marks .entry))
-        (now (output .exit)) (now (marks .exit)) ⌝ }
+    ensures { λ _. ⌜ DrawsAll screen3 w h clarity (blocksFrom (y * w + x) n) (now (picture .entry)) (now (output .entry))
+        (now (marks .entry)) (now (output .exit)) (now (marks .exit)) ⌝ }
 {
     let row = 3 * (w as usize);
     let at = corner(w, x, y);
@@ -45,16 +48,17 @@ fn draw_stale(
     marks: &mut [u8],
     w: u32,
     h: u32,
+    clarity: Clarity,
     x: u32,
     y: u32,
     k: u32,
     tags: &[u8],
     from: usize,
 )
-    requires { ⌜ (RowTags w h (now picture) x y k from (now tags))
+    requires { ⌜ (RowTags w h clarity (now picture) x y k from (now tags))
         × Lent screen3 w h (length (now picture)) (length (now output)) (length (now marks)) ⌝ }
-    ensures { λ _. ⌜ Swept screen3 w h (Inside w x (x + k) y (y + 1)) (now (picture .entry)) (now (output .entry)) (now (marks .entry))
-        (now (output .exit)) (now (marks .exit)) ⌝ }
+    ensures { λ _. ⌜ Swept screen3 w h clarity (Inside w x (x + k) y (y + 1)) (now (picture .entry)) (now (output .entry))
+        (now (marks .entry)) (now (output .exit)) (now (marks .exit)) ⌝ }
 {
     let start = (y as usize) * (w as usize) + (x as usize);
     let mut i: u32 = 0;
@@ -70,6 +74,7 @@ fn draw_stale(
                 marks,
                 w,
                 h,
+                clarity,
                 x + i,
                 y,
                 n,
@@ -88,22 +93,35 @@ fn draw_rows(
     marks: &mut [u8],
     w: u32,
     h: u32,
+    clarity: Clarity,
     x: u32,
     y: u32,
     k: u32,
     r: u32,
     tags: &[u8],
 )
-    requires { ⌜ ((Tile w h x y k r) × TileTags w h (now picture) x y k r (now tags))
+    requires { ⌜ ((Tile w h x y k r) × TileTags w h clarity (now picture) x y k r (now tags))
         × Lent screen3 w h (length (now picture)) (length (now output)) (length (now marks)) ⌝ }
-    ensures { λ _. ⌜ Swept screen3 w h (Inside w x (x + k) y (y + r)) (now (picture .entry)) (now (output .entry)) (now (marks .entry))
-        (now (output .exit)) (now (marks .exit)) ⌝ }
+    ensures { λ _. ⌜ Swept screen3 w h clarity (Inside w x (x + k) y (y + r)) (now (picture .entry)) (now (output .entry))
+        (now (marks .entry)) (now (output .exit)) (now (marks .exit)) ⌝ }
 {
     let row = 4 * (k as usize);
     let mut j: u32 = 0;
     let mut from: usize = 0;
     while j < r {
-        draw_stale(picture, output, marks, w, h, x, y + j, k, tags, from);
+        draw_stale(
+            picture,
+            output,
+            marks,
+            w,
+            h,
+            clarity,
+            x,
+            y + j,
+            k,
+            tags,
+            from,
+        );
         from += row;
         j += 1;
     }
@@ -116,16 +134,29 @@ pub fn draw_tile(
     marks: &mut [u8],
     w: u32,
     h: u32,
+    clarity: Clarity,
     x: u32,
     y: u32,
     k: u32,
     r: u32,
 )
     requires { ⌜ (Tile w h x y k r) × Lent screen3 w h (length (now picture)) (length (now output)) (length (now marks)) ⌝ }
-    ensures { λ _. ⌜ Swept screen3 w h (Inside w x (x + k) y (y + r)) (now (picture .entry)) (now (output .entry)) (now (marks .entry))
-        (now (output .exit)) (now (marks .exit)) ⌝ }
+    ensures { λ _. ⌜ Swept screen3 w h clarity (Inside w x (x + k) y (y + r)) (now (picture .entry)) (now (output .entry))
+        (now (marks .entry)) (now (output .exit)) (now (marks .exit)) ⌝ }
 {
     let mut bytes = [0u8; BYTES];
-    tags_tile(picture, w, h, x, y, k, r, &mut bytes);
-    draw_rows(picture, output, marks, w, h, x, y, k, r, &bytes[TAGS..]);
+    tags_tile(picture, w, h, clarity, x, y, k, r, &mut bytes);
+    draw_rows(
+        picture,
+        output,
+        marks,
+        w,
+        h,
+        clarity,
+        x,
+        y,
+        k,
+        r,
+        &bytes[TAGS..],
+    );
 }

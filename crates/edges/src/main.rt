@@ -1,4 +1,5 @@
 // Sessions at the edges of docs/RULES.md: each line is what a call answered, or words of the picture after it.
+use clarity::Clarity;
 use header::Header;
 use header::Rectangle;
 use libc::STDOUT_FILENO;
@@ -74,7 +75,7 @@ fn locks() {
     let mut picture = [1u32; 12];
     let mut output = [7u32; 108];
     let mut marks = [3u8; 12];
-    let o = Session::open(4, 3, &picture, &mut output, &mut marks);
+    let o = Session::open(4, 3, Clarity::Standard, &picture, &mut output, &mut marks);
     refresh(o.session, &picture, &mut output, &mut marks, 12);
     // It touches the right and the bottom border: refused inside, unchanged at an equal word, taken to its left and above it.
     let s = lock(o.session, 2, 1, 2, 2);
@@ -125,7 +126,7 @@ fn lists() {
     let mut picture = [1u32; 12];
     let mut output = [7u32; 108];
     let mut marks = [3u8; 12];
-    let o = Session::open(4, 3, &picture, &mut output, &mut marks);
+    let o = Session::open(4, 3, Clarity::Standard, &picture, &mut output, &mut marks);
     let s = lock(o.session, 2, 1, 2, 2);
     refresh(s, &picture, &mut output, &mut marks, 12);
     let mut a = none();
@@ -176,6 +177,7 @@ fn wild() {
                 width: 2,
                 height: 1,
             },
+            clarity: Clarity::Standard,
         },
     };
     refresh(s, &picture, &mut output, &mut marks, 4);
@@ -183,12 +185,94 @@ fn wild() {
     lock(s, 0, 0, 0, 0);
 }
 
+// A header that no call answered: its setting is not lawful. That comes after a lock past the picture and a short buffer, and before the
+// items of a list, a position outside and a stale block.
+fn unlawful() {
+    let mut picture = [0u32; 4];
+    let mut output = [7u32; 36];
+    let mut short = [7u32; 35];
+    let mut marks = [1u8; 4];
+    let s = Session {
+        header: Header {
+            w: 2,
+            h: 2,
+            lock: Rectangle {
+                left: 0,
+                top: 0,
+                width: 0,
+                height: 0,
+            },
+            clarity: Clarity::Gated(0.0),
+        },
+    };
+    paint(s, &mut picture, &mut marks, 2, 0, 1);
+    list(s, &mut picture, &mut marks, none(), 65);
+    refresh(s, &picture, &mut output, &mut marks, 4);
+    refresh(s, &picture, &mut short, &mut marks, 4);
+    show(s, &output, &marks, 2, 0);
+    lock(s, 0, 0, 0, 0);
+    lock(s, 1, 0, 2, 1);
+    line(b"kept", picture[0], output[0], short[0]);
+}
+
+// A session opened at a setting.
+fn opened(clarity: Clarity) {
+    let picture = [0u32; 1];
+    let mut output = [7u32; 9];
+    let mut marks = [3u8; 1];
+    let o = Session::open(1, 1, clarity, &picture, &mut output, &mut marks);
+    line(b"open", o.refusal, output[0], o.stale);
+}
+
+// Both zeros, the smallest subnormal, 1.0 and the single above it, the infinities and what is not a number.
+fn thresholds() {
+    let zero = 0.0f32;
+    opened(Clarity::Threshold(0.0));
+    opened(Clarity::Threshold(-0.0));
+    opened(Clarity::Gated(-0.0));
+    opened(Clarity::Threshold(1e-45));
+    opened(Clarity::Gated(1e-45));
+    opened(Clarity::Threshold(1.0));
+    opened(Clarity::Gated(1.0));
+    opened(Clarity::Threshold(1.0000001));
+    opened(Clarity::Threshold(-0.5));
+    opened(Clarity::Threshold(1.0 / zero));
+    opened(Clarity::Threshold(-1.0 / zero));
+    opened(Clarity::Threshold(zero / zero));
+    opened(Clarity::Gated(zero / zero));
+    opened(Clarity::Standard);
+}
+
+// Two greys, drawn at a setting after a lock call, which keeps it: three words of a block that differ from setting to setting.
+fn drawn(clarity: Clarity) {
+    let mut picture = [0u32; 16];
+    picture[1] = 0x404040;
+    picture[7] = 0x404040;
+    picture[10] = 0x606060;
+    picture[14] = 0x404040;
+    picture[15] = 0x404040;
+    let mut output = [7u32; 144];
+    let mut marks = [3u8; 16];
+    let o = Session::open(4, 4, clarity, &picture, &mut output, &mut marks);
+    let s = lock(o.session, 0, 0, 1, 1);
+    refresh(s, &picture, &mut output, &mut marks, 16);
+    let b = s.show(&output, &marks, 2, 2);
+    line(b"block", b.words[2], b.words[3], b.words[6]);
+}
+
 // A side past the limit.
 fn too_wide() {
     let picture = [0u32; 4];
     let mut output = [7u32; 36];
     let mut marks = [3u8; 4];
-    let o = Session::open(2049, 1, &picture, &mut output, &mut marks);
+    let o = Session::open(
+        2049,
+        1,
+        Clarity::Standard,
+        &picture,
+        &mut output,
+        &mut marks,
+    );
     line(b"open", o.refusal, o.session.header.w, o.stale);
 }
 
@@ -196,7 +280,7 @@ fn main() {
     let mut picture = [0u32; 1024];
     let mut output = [7u32; 9216];
     let mut marks = [0u8; 1024];
-    let o = Session::open(32, 32, &picture, &mut output, &mut marks);
+    let o = Session::open(32, 32, Clarity::Standard, &picture, &mut output, &mut marks);
     let s = o.session;
     line(b"open", o.refusal, s.header.w, o.stale);
     show(s, &output, &marks, 0, 0);
@@ -220,4 +304,11 @@ fn main() {
     locks();
     lists();
     wild();
+    unlawful();
+    thresholds();
+    drawn(Clarity::Standard);
+    drawn(Clarity::Threshold(0.5));
+    drawn(Clarity::Gated(0.5));
+    drawn(Clarity::Threshold(0.25));
+    drawn(Clarity::Threshold(1.0));
 }

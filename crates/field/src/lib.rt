@@ -1,6 +1,7 @@
 // The passes of the metrics, the weights and the junctions over a rectangle of pixels: each reads its
 // neighbours' records at clamped places of a lent buffer and writes one record a pixel, row by row. The
 // whole picture and the rectangles round a tile are the same passes on other rectangles.
+use clarity::Clarity;
 use grid::Grid;
 use grid::metric_in;
 use grid::place::three_at;
@@ -19,7 +20,7 @@ ghost use Rattle.picture.specs.Picture.{words};
 ghost use Rattle.picture.specs.Fill.{put};
 ghost use Rattle.metric.specs.Distance.{distanceOf};
 ghost use Rattle.metric.specs.Metric.{metrics};
-ghost use Rattle.metric.specs.Weight.{weights};
+ghost use Rattle.weight.specs.Weight.{weights};
 ghost use Rattle.junction.specs.Junction.{junctions};
 ghost use Rattle.grid.specs.Grid.{ofMetric, ofWeights, ofJunctions, metricField};
 ghost use Rattle.grid.specs.Grid.{weightsField, rowOf, rectOf};
@@ -83,13 +84,14 @@ pub fn metrics_rect(picture: &[u32], w: u32, h: u32, g: Grid, singles: &mut [f32
 }
 
 // The weights of (x, y), from the metrics of the rectangle g.
-fn weights_at(s: &[f32], g: Grid, w: u32, h: u32, x: u32, y: u32) -> Weights
+fn weights_at(clarity: Clarity, s: &[f32], g: Grid, w: u32, h: u32, x: u32, y: u32) -> Weights
     requires { ⌜ (Around 1 1 g w h x y) × (Held g (length (now s))) ⌝ }
-    ensures { λ q. ⌜ q ≡ weights w h (metricField g (now (s .entry))) x y ⌝ }
+    ensures { λ q. ⌜ q ≡ weights clarity w h (metricField g (now (s .entry))) x y ⌝ }
 {
     let xs = three_at(x, w);
     let ys = three_at(y, h);
-    metric::weights_of(
+    weight::weights_of(
+        clarity,
         metric_in(s, g, xs.before, ys.before),
         metric_in(s, g, xs.at, ys.before),
         metric_in(s, g, xs.before, ys.at),
@@ -102,17 +104,27 @@ fn weights_at(s: &[f32], g: Grid, w: u32, h: u32, x: u32, y: u32) -> Weights
 }
 
 // The weights of row y of the rectangle v, from the metrics of the rectangle g before `cut`, from the element `at` on.
-fn weights_row(singles: &mut [f32], cut: usize, g: Grid, w: u32, h: u32, v: Grid, y: u32, at: usize)
+fn weights_row(
+    clarity: Clarity,
+    singles: &mut [f32],
+    cut: usize,
+    g: Grid,
+    w: u32,
+    h: u32,
+    v: Grid,
+    y: u32,
+    at: usize,
+)
     requires { ⌜ (Held g cut) × ((cut ≤ at) × ((Reads 1 1 g w h v y) × (at + v .cols * 4 ≤ length (now singles)))) ⌝ }
     ensures { λ _. ⌜ now (singles .exit)
-        ≡ put at (rowOf ofWeights v (weights w h (metricField g (take cut (now (singles .entry))))) y) (now (singles .entry)) ⌝ }
+        ≡ put at (rowOf ofWeights v (weights clarity w h (metricField g (take cut (now (singles .entry))))) y) (now (singles .entry)) ⌝ }
 {
     let cols = v.cols;
     let x0 = v.x0;
     let mut x: u32 = 0;
     let mut i = at;
     while x < cols {
-        let q = weights_at(&singles[..cut], g, w, h, x0 + x, y);
+        let q = weights_at(clarity, &singles[..cut], g, w, h, x0 + x, y);
         store_singles(singles, i, q.w0, q.w1, q.w2, q.w3);
         i += 4;
         x += 1;
@@ -120,10 +132,18 @@ fn weights_row(singles: &mut [f32], cut: usize, g: Grid, w: u32, h: u32, v: Grid
 }
 
 // The weights of the rectangle v, from the metrics of the rectangle g before `cut`, from `cut` on.
-pub fn weights_rect(singles: &mut [f32], cut: usize, g: Grid, w: u32, h: u32, v: Grid)
+pub fn weights_rect(
+    clarity: Clarity,
+    singles: &mut [f32],
+    cut: usize,
+    g: Grid,
+    w: u32,
+    h: u32,
+    v: Grid,
+)
     requires { ⌜ (Held g cut) × ((Feeds 1 1 g w h v) × (cut + v .rows * (v .cols * 4) ≤ length (now singles))) ⌝ }
     ensures { λ _. ⌜ now (singles .exit)
-        ≡ put cut (rectOf ofWeights v (weights w h (metricField g (take cut (now (singles .entry)))))) (now (singles .entry)) ⌝ }
+        ≡ put cut (rectOf ofWeights v (weights clarity w h (metricField g (take cut (now (singles .entry)))))) (now (singles .entry)) ⌝ }
 {
     let cols = v.cols;
     let rows = v.rows;
@@ -131,7 +151,7 @@ pub fn weights_rect(singles: &mut [f32], cut: usize, g: Grid, w: u32, h: u32, v:
     let mut y: u32 = 0;
     let mut at: usize = cut;
     while y < rows {
-        weights_row(singles, cut, g, w, h, v, y0 + y, at);
+        weights_row(clarity, singles, cut, g, w, h, v, y0 + y, at);
         at += (cols as usize) * 4;
         y += 1;
     }

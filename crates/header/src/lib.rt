@@ -1,5 +1,7 @@
-// A session's header, one thing that every call but the opening is lent: the picture's width and height, and one locked
-// rectangle, the lock. `specs/Header.antt` says what a lock holds and when a rectangle reaches past the picture.
+// A session's header, one thing that every call but the opening is lent: the picture's width and height, one locked rectangle, the lock,
+// and the setting of clarity that blocks are drawn by. `specs/Header.antt` says what a lock holds and when a rectangle reaches past the
+// picture.
+use clarity::Clarity;
 ghost use mathlib.Core.Path.{_≡_};
 ghost use Prim.Native.Nat.{_+_};
 ghost use Rattle.header.specs.Header.{locked, past, fresh, withLock, noHeader};
@@ -17,11 +19,12 @@ pub struct Header {
     pub w: u32,
     pub h: u32,
     pub lock: Rectangle,
+    pub clarity: Clarity,
 }
 
 // The header that an opening answers: no lock.
-pub fn fresh(w: u32, h: u32) -> Header
-    ensures { λ r. ⌜ r ≡ fresh w h ⌝ }
+pub fn fresh(w: u32, h: u32, clarity: Clarity) -> Header
+    ensures { λ r. ⌜ r ≡ fresh w h clarity ⌝ }
 {
     Header {
         w,
@@ -32,6 +35,7 @@ pub fn fresh(w: u32, h: u32) -> Header
             width: 0,
             height: 0,
         },
+        clarity,
     }
 }
 
@@ -39,10 +43,12 @@ pub fn fresh(w: u32, h: u32) -> Header
 pub fn with_lock(header: Header, lock: Rectangle) -> Header
     ensures { λ r. ⌜ r ≡ withLock header lock ⌝ }
 {
+    let clarity = header.clarity;
     Header {
         w: header.w,
         h: header.h,
         lock,
+        clarity,
     }
 }
 
@@ -50,7 +56,7 @@ pub fn with_lock(header: Header, lock: Rectangle) -> Header
 pub fn no_header() -> Header
     ensures { λ r. ⌜ r ≡ noHeader ⌝ }
 {
-    fresh(0, 0)
+    fresh(0, 0, Clarity::Standard)
 }
 
 // The first column past a rectangle, or the first row: in 64 bits, since in 32 a sum near 2^32 would wrap.

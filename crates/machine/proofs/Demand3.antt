@@ -1,6 +1,6 @@
 -- Demand 3 holds of every lawful screen. Assumes nothing.
 use mathlib.Core.Path.{_≡_, refl, sym, ap, ap₂, _∙_, subst, subst₂}
-use mathlib.Core.Bool.{Bool, true, false, cond, true≢false}
+use mathlib.Core.Bool.{Bool, true, false, cond, not, true≢false}
 use mathlib.Core.List.{List, [], _∷_, _++_, map}
 use Prim.Native.Nat.{ℕ, suc, _+_, _-_, _*_, _≤_, _<_, min}
 use native.Mathlib.Nat.{zero-add}
@@ -10,6 +10,8 @@ use lib.Arith.{digits-div, digits-mod}
 use lib.ListN.{length, getD, take, drop, replicate, take-append-drop}
 use lib.Seq.{take-at, drop-at, length-take-le, ext-getD}
 use borrow.Author.Tests.{eqb-true, eq-eqb, ltb-false}
+use Rattle.clarity.specs.declared.Clarity.{Clarity}
+use Rattle.clarity.specs.Clarity.{lawfulOf, plainly}
 use Rattle.header.specs.declared.Rectangle.{Rectangle}
 use Rattle.header.specs.declared.Header.{Header}
 use Rattle.header.specs.Header.{locked, past, noLock, fresh, noHeader}
@@ -59,8 +61,8 @@ module _ (S : Screen) (L : Lawful S) (w h : ℕ) where
 
   -- a block that is not stale
   block-drawn : (s : State) → Good S w h s → (bx by : ℕ) → bx < w → by < h → getD (s .stale) (by * w + bx) true ≡ false
-      → blockAt S w h bx by (s .output) ≡ S .draw w h (s .picture) bx by
-  block-drawn s g bx by x y e = ext-getD 0 (blockAt S w h bx by (s .output)) (S .draw w h (s .picture) bx by) (long ∙ sym (L .draw-length w h (s .picture) bx by)) at
+      → blockAt S w h bx by (s .output) ≡ S .draw (s .clarity) w h (s .picture) bx by
+  block-drawn s g bx by x y e = ext-getD 0 (blockAt S w h bx by (s .output)) (S .draw (s .clarity) w h (s .picture) bx by) (long ∙ sym (L .draw-length (s .clarity) w h (s .picture) bx by)) at
     where
       long : length (blockAt S w h bx by (s .output)) ≡ blockWords S
       long = length-table (blockWords S) (λ k. getD (s .output) (place S w bx by k) 0)
@@ -68,41 +70,55 @@ module _ (S : Screen) (L : Lawful S) (w h : ℕ) where
       b : ℕ
       b = by * w + bx
 
-      at : (k : ℕ) → k < length (blockAt S w h bx by (s .output)) → getD (blockAt S w h bx by (s .output)) k 0 ≡ getD (S .draw w h (s .picture) bx by) k 0
+      at : (k : ℕ) → k < length (blockAt S w h bx by (s .output)) → getD (blockAt S w h bx by (s .output)) k 0 ≡ getD (S .draw (s .clarity) w h (s .picture) bx by) k 0
       at k l =
           let m : k < blockWords S = omega (arith, long) in
           getD-table (blockWords S) (λ k. getD (s .output) (place S w bx by k) 0) k 0 m
-          ∙ subst₂ (λ (c r : ℕ). getD (s .output) (place S w c r k) 0 ≡ getD (S .draw w h (s .picture) c r) k 0) (digits-mod by x) (digits-div by x)
+          ∙ subst₂ (λ (c r : ℕ). getD (s .output) (place S w c r k) 0 ≡ getD (S .draw (s .clarity) w h (s .picture) c r) k 0) (digits-mod by x) (digits-div by x)
           (g .shown b k (block-lt x y) e m)
 
-  -- the whole picture is that of a session which is opened on it and drawn once
+  -- no call alters the setting
+  pub same-setting : (cs : List Call) (s : State) → after S w h cs s .clarity ≡ s .clarity
+  same-setting [] s = refl
+  same-setting (c ∷ cs) s = same-setting cs (step S w h c s .0) ∙ by-call c
+    where
+      by-call : (c : Call) → step S w h c s .0 .clarity ≡ s .clarity
+      by-call (Paint column row word) = by-paint S L w h (λ t. t .clarity ≡ s .clarity) column row word s refl (λ c r f. refl)
+      by-call (PaintList items) = by-list S L w h (λ t. t .clarity ≡ s .clarity) (λ column row word t e c r f. e) items s refl
+      by-call (Refresh n) = refl
+      by-call (Show bx by) = refl
+      by-call (Lock r) = by-lock (λ t. t .clarity ≡ s .clarity) r s refl (λ e. refl)
+
+-- ---- the whole picture is that of a session which is opened on it, at a lawful setting, and drawn once
+
+module _ (S : Screen) (L : Lawful S) (w h : ℕ) (q : Clarity) (v : lawfulOf q ≡ true) where
   full : List ℕ → State
-  full picture = redraw S w h (w * h) (opened S w h picture)
+  full picture = redraw S w h (w * h) (opened S w h q picture)
 
   full-good : (picture : List ℕ) → length picture ≡ w * h → Good S w h (full picture)
   unfolding full
-  full-good picture l = good-redraw S L w h (w * h) (opened S w h picture) (good-opened S L w h picture l)
+  full-good picture l = good-redraw S L w h (w * h) (opened S w h q picture) (good-opened S L w h q picture v l)
 
   full-count : (picture : List ℕ) → count (full picture .stale) ≡ 0
   unfolding full
   full-count picture = count-cleared (w * h) (replicate (w * h) true) ∙ omega (arith, count-replicate (w * h))
 
-  full-output : (picture : List ℕ) → full picture .output ≡ whole S w h picture
+  full-output : (picture : List ℕ) → full picture .output ≡ whole S w h q picture
   unfolding full
   full-output picture =
-      ap (λ (bs : List ℕ). putAll S w h picture bs (replicate (blockWords S * (w * h)) 0)) (first-replicate 0 (w * h) (λ b. b) (λ k. sym (zero-add k)))
+      ap (λ (bs : List ℕ). putAll S w h q picture bs (replicate (blockWords S * (w * h)) 0)) (first-replicate 0 (w * h) (λ b. b) (λ k. sym (zero-add k)))
 
-  full-picture : (picture : List ℕ) → full picture .picture ≡ picture
+  full-same : (picture : List ℕ) → (full picture .picture ≡ picture) × (full picture .clarity ≡ q)
   unfolding full
-  full-picture picture = refl
+  full-same picture = (refl, refl)
 
   whole-drawn : (picture : List ℕ) → length picture ≡ w * h → (bx by : ℕ) → bx < w → by < h
-      → blockAt S w h bx by (whole S w h picture) ≡ S .draw w h picture bx by
+      → blockAt S w h bx by (whole S w h q picture) ≡ S .draw q w h picture bx by
   whole-drawn picture l bx by x y =
       ap (blockAt S w h bx by) (sym (full-output picture))
-      ∙ block-drawn (full picture) (full-good picture l) bx by x y
+      ∙ block-drawn S L w h (full picture) (full-good picture l) bx by x y
       (none-true (full picture .stale) (full-count picture) (by * w + bx) (omega (arith, full-good picture l .stale-length, block-lt x y)))
-      ∙ ap (λ (p : List ℕ). S .draw w h p bx by) (full-picture picture)
+      ∙ ap₂ (λ (c : Clarity) (p : List ℕ). S .draw c w h p bx by) (full-same picture .1) (full-same picture .0)
 
 -- ---- a list of calls, from buffers that hold a state
 
@@ -144,6 +160,10 @@ module _ (S : Screen) (L : Lawful S) (w h : ℕ) (sides : sideLong (S .side) w h
 
 -- ---- from the opening on
 
+no-not : (t : Bool) → not t ≡ false → t ≡ true
+no-not true e = refl
+no-not false e = absurd (true≢false e)
+
 -- an opening that is not refused
 accepted : (r : ℕ) (d x y : OpenEnd) → y .refusal ≡ r → d ≡ cond (eqb r 0) x y → d .refusal ≡ 0 → (r ≡ 0) × (d ≡ x)
 accepted r d x y n q z = by-test (eqb r 0) refl q
@@ -153,23 +173,23 @@ accepted r d x y n q z = by-test (eqb r 0) refl q
     by-test false e f =
         absurd (true≢false (sym (eq-eqb r 0 (sym n ∙ ap (λ (d : OpenEnd). d .refusal) (sym f) ∙ z)) ∙ e))
 
-module _ (S : Screen) (L : Lawful S) (w h : ℕ) (b : Buffers) where
+module _ (S : Screen) (L : Lawful S) (w h : ℕ) (q : Clarity) (b : Buffers) where
   -- the buffers that hold a state, with what b has behind
   abbrev keep : State → Buffers
   keep s = held (drop (w * h) (b .picture)) (drop (blockWords S * (w * h)) (b .output)) (drop (w * h) (b .marks)) s
 
-  module _ {stale : ℕ} {cs : List Call} {rs : List Answer} {last : Header} {e : Buffers} (t : Trace S w h b stale cs rs last e) where
+  module _ {stale : ℕ} {cs : List Call} {rs : List Answer} {last : Header} {e : Buffers} (t : Trace S w h q b stale cs rs last e) where
     done : OpenEnd
     done = record {
       output = replicate (blockWords S * (w * h)) 0 ++ drop (blockWords S * (w * h)) (b .output);
       marks = replicate (w * h) 1 ++ drop (w * h) (b .marks);
       refusal = 0;
-      header = fresh w h;
+      header = fresh w h q;
       stale = w * h;
     }
 
     refused : ℕ
-    refused = refusalAll (S .side) (blockWords S) (fresh w h) (length (b .picture)) (length (b .output)) (length (b .marks))
+    refused = refusalAll (S .side) (blockWords S) (fresh w h q) (length (b .picture)) (length (b .output)) (length (b .marks))
 
     opening : (refused ≡ 0)
         × (_≡_ {A = OpenEnd} (record { output = t .output; marks = t .marks; refusal = 0; header = t .header; stale = stale }) done)
@@ -178,14 +198,16 @@ module _ (S : Screen) (L : Lawful S) (w h : ℕ) (b : Buffers) where
         accepted refused (record { output = t .output; marks = t .marks; refusal = 0; header = t .header; stale = stale }) done
         (record { output = b .output; marks = b .marks; refusal = refused; header = noHeader; stale = 0 }) refl (t .opens .is) refl
 
-    sizes : (sideLong (S .side) w h ≡ false) × (w * h ≤ length (b .picture))
+    sizes : (sideLong (S .side) w h ≡ false) × (w * h ≤ length (b .picture)) × (lawfulOf q ≡ true)
     unfolding refused
     sizes =
         let f = unmet (sideLong (S .side) w h) 0 _ (opening .0) in
         let n = unmet (ltb (length (b .picture)) (w * h)) 1 _ (unmet (past w h noLock) 9 _ (f .1) .1) in
-        (f .0, ltb-false (length (b .picture)) (w * h) (n .0))
+        let o = unmet (ltb (length (b .output)) (blockWords S * (w * h))) 2 _ (n .1) in
+        let m = unmet (ltb (length (b .marks)) (w * h)) 3 _ (o .1) in
+        (f .0, ltb-false (length (b .picture)) (w * h) (n .0), no-not (lawfulOf q) (unmet (not (lawfulOf q)) 12 0 (m .1) .0))
 
-    start : _≡_ {A = Buffers} (record { picture = b .picture; output = t .output; marks = t .marks }) (keep (started S w h b))
+    start : _≡_ {A = Buffers} (record { picture = b .picture; output = t .output; marks = t .marks }) (keep (started S w h q b))
     unfolding done
     start = λ i. record {
       picture = sym (take-append-drop (w * h) (b .picture)) i;
@@ -193,23 +215,26 @@ module _ (S : Screen) (L : Lawful S) (w h : ℕ) (b : Buffers) where
       marks = (ap (λ (d : OpenEnd). d .marks) (opening .1) ∙ ap (λ (l : List ℕ). l ++ drop (w * h) (b .marks)) (sym (bytes-replicate (w * h)))) i;
     }
 
-    good-started : Good S w h (started S w h b)
-    good-started = good-opened S L w h (take (w * h) (b .picture)) (length-take-le (w * h) (b .picture) (sizes .1))
+    good-started : Good S w h (started S w h q b)
+    good-started = good-opened S L w h q (take (w * h) (b .picture)) (sizes .2) (length-take-le (w * h) (b .picture) (sizes .1))
 
     abbrev pub met : State
-    met = after S w h cs (started S w h b)
+    met = after S w h cs (started S w h q b)
 
     pub good-met : Good S w h met
-    good-met = good-after S L w h cs (started S w h b) good-started
+    good-met = good-after S L w h cs (started S w h q b) good-started
+
+    pub setting-met : met .clarity ≡ q
+    setting-met = same-setting S L w h cs (started S w h q b)
 
     pub more : {cs : List Call} {rs : List Answer} {header last′ : Header} {b′ e′ : Buffers} → Ran S header b′ cs rs last′ e′ → (s : State) → Good S w h s
         → header ≡ headerOf w h s → b′ ≡ keep s
         → (last′ ≡ headerOf w h (after S w h cs s)) × (e′ ≡ keep (after S w h cs s)) × (rs ≡ answers S w h cs s)
     more r s g a q = ran-held S L w h (sizes .0) (drop (w * h) (b .picture)) (drop (blockWords S * (w * h)) (b .output)) (drop (w * h) (b .marks)) r s g a q
 
-    pub ended : (last ≡ headerOf w h met) × (e ≡ keep met) × (rs ≡ answers S w h cs (started S w h b))
+    pub ended : (last ≡ headerOf w h met) × (e ≡ keep met) × (rs ≡ answers S w h cs (started S w h q b))
     unfolding done
-    ended = more (t .ran) (started S w h b) good-started (ap (λ (d : OpenEnd). d .header) (opening .1)) start
+    ended = more (t .ran) (started S w h q b) good-started (ap (λ (d : OpenEnd). d .header) (opening .1)) start
 
     bytes-met : length (map byteOf (met .stale)) ≡ w * h
     bytes-met = length-bytes (met .stale) ∙ good-met .stale-length
@@ -232,24 +257,24 @@ module _ (S : Screen) (L : Lawful S) (w h : ℕ) (b : Buffers) where
     left-met = left-of met good-met e (ended .1)
 
     block-met : (bx by : ℕ) → bx < w → by < h → getD (met .stale) (by * w + bx) true ≡ false
-        → blockAt S w h bx by (e .output) ≡ S .draw w h (take (w * h) (e .picture)) bx by
+        → blockAt S w h bx by (e .output) ≡ S .draw q w h (take (w * h) (e .picture)) bx by
     block-met bx by x y f =
         ap (λ (l : Buffers). blockAt S w h bx by (l .output)) (ended .1)
         ∙ block-append S L w h (drop (blockWords S * (w * h)) (b .output)) met good-met bx by x y
         ∙ block-drawn S L w h met good-met bx by x y f
-        ∙ ap (λ (p : List ℕ). S .draw w h p bx by) (sym (holds .picture-same))
+        ∙ ap₂ (λ (c : Clarity) (p : List ℕ). S .draw c w h p bx by) setting-met (sym (holds .picture-same))
 
     picture-met : length (take (w * h) (e .picture)) ≡ w * h
     picture-met = ap length (holds .picture-same) ∙ good-met .picture-length
 
-    follows : Follows S w h b stale cs rs last e
+    follows : Follows S w h q b stale cs rs last e
     unfolding done
     follows = record {
       same-count = ap (λ (d : OpenEnd). d .stale) (opening .1) ∙ sym (count-replicate (w * h));
       same-answers = ended .2;
       same-state = holds;
       blocks = λ bx by x y f. (
-        block-met bx by x y f ∙ sym (whole-drawn S L w h (take (w * h) (e .picture)) picture-met bx by x y),
+        block-met bx by x y f ∙ sym (whole-drawn S L w h q (sizes .2) (take (w * h) (e .picture)) picture-met bx by x y),
         block-met bx by x y f,
       );
       counts-down = λ n k cs′ rs′ last′ e′ f r.
@@ -259,22 +284,27 @@ module _ (S : Screen) (L : Lawful S) (w h : ℕ) (b : Buffers) where
 
 pub every : (S : Screen) → Lawful S → Demand3 S
 every S L = record {
-  each = λ {w} {h} {stale} {b} t. follows S L w h b t;
-  two = λ {w} {h} {stale} {stale′} {b} {b′} t t′ p z z′.
-      holds S L w h b t .output-same
-      ∙ good-same S L w h (met S L w h b t) (met S L w h b′ t′) (good-met S L w h b t) (good-met S L w h b′ t′)
-      (sym (holds S L w h b t .picture-same) ∙ p ∙ holds S L w h b′ t′ .picture-same)
-      (sym (left-met S L w h b t) ∙ z) (sym (left-met S L w h b′ t′) ∙ z′)
-      ∙ sym (holds S L w h b′ t′ .output-same);
+  each = λ {w} {h} {stale} {c} {b} t. follows S L w h c b t;
+  two = λ {w} {h} {stale} {stale′} {c} {c′} {b} {b′} q t t′ p z z′.
+      holds S L w h c b t .output-same
+      ∙ good-same S L w h (met S L w h c b t) (met S L w h c′ b′ t′)
+      (ap plainly (setting-met S L w h c b t) ∙ q ∙ ap plainly (sym (setting-met S L w h c′ b′ t′)))
+      (good-met S L w h c b t) (good-met S L w h c′ b′ t′)
+      (sym (holds S L w h c b t .picture-same) ∙ p ∙ holds S L w h c′ b′ t′ .picture-same)
+      (sym (left-met S L w h c b t) ∙ z) (sym (left-met S L w h c′ b′ t′) ∙ z′)
+      ∙ sym (holds S L w h c′ b′ t′ .output-same);
 }
 
--- a list that ends with nothing stale holds the present picture enlarged whole
-pub ended-whole : (S : Screen) → Lawful S → {w h stale : ℕ} {b e : Buffers} {cs : List Call} {rs : List Answer} {last : Header}
-    → Trace S w h b stale cs rs last e → left S w h e ≡ 0 → take (blockWords S * (w * h)) (e .output) ≡ whole S w h (take (w * h) (e .picture))
-ended-whole S L {w} {h} {stale} {b} {e} t z =
+-- a list that ends with nothing stale holds the present picture enlarged whole at the session's setting
+pub ended-whole : (S : Screen) → Lawful S → {w h stale : ℕ} {c : Clarity} {b e : Buffers} {cs : List Call} {rs : List Answer} {last : Header}
+    → Trace S w h c b stale cs rs last e → left S w h e ≡ 0 → take (blockWords S * (w * h)) (e .output) ≡ whole S w h c (take (w * h) (e .picture))
+ended-whole S L {w} {h} {stale} {c} {b} {e} t z =
     let p : List ℕ = take (w * h) (e .picture) in
-    let l = picture-met S L w h b t in
-    holds S L w h b t .output-same
-    ∙ good-same S L w h (met S L w h b t) (full S L w h p) (good-met S L w h b t) (full-good S L w h p l)
-    (sym (holds S L w h b t .picture-same) ∙ sym (full-picture S L w h p)) (sym (left-met S L w h b t) ∙ z) (full-count S L w h p)
-    ∙ full-output S L w h p
+    let l = picture-met S L w h c b t in
+    let v = sizes S L w h c b t .2 in
+    holds S L w h c b t .output-same
+    ∙ good-same S L w h (met S L w h c b t) (full S L w h c v p)
+    (ap plainly (setting-met S L w h c b t ∙ sym (full-same S L w h c v p .1)))
+    (good-met S L w h c b t) (full-good S L w h c v p l)
+    (sym (holds S L w h c b t .picture-same) ∙ sym (full-same S L w h c v p .0)) (sym (left-met S L w h c b t) ∙ z) (full-count S L w h c v p)
+    ∙ full-output S L w h c v p

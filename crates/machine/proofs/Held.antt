@@ -1,7 +1,7 @@
 -- Buffers that hold a state of the machine, with more behind it: what a call's contract says of them is what the machine does with the state.
 -- Assumes nothing.
 use mathlib.Core.Path.{_≡_, refl, sym, ap, _∙_, subst}
-use mathlib.Core.Bool.{Bool, true, false, cond, _&&_, true≢false, and-eq-true-iff}
+use mathlib.Core.Bool.{Bool, true, false, cond, not, _&&_, true≢false, and-eq-true-iff}
 use mathlib.Core.List.{List, [], _∷_, _++_, map}
 use Prim.Native.Nat.{ℕ, suc, _+_, _*_, _/_, _%_, _≤_, _<_, min}
 use native.Mathlib.Omega.{arith}
@@ -10,6 +10,7 @@ use lib.ListN.{length, getD, set, take, replicate, length-append, length-set, Li
 use lib.Seq.{set-append-left, take-at}
 use borrow.Author.Tests.{le-ltb, ltb-true}
 use Rattle.picture.specs.Fill.{getD-any}
+use Rattle.clarity.specs.declared.Clarity.{Clarity}
 use Rattle.header.specs.declared.Rectangle.{Rectangle}
 use Rattle.header.specs.declared.Header.{Header}
 use Rattle.header.specs.Header.{locked, past, withLock, noHeader}
@@ -17,7 +18,8 @@ use Rattle.machine.specs.Lists.{stamp, setAll, count, first}
 use Rattle.machine.specs.Screen.{Screen, Lawful, blockWords, place}
 use Rattle.machine.specs.Machine.{State, Paint, Refresh, Show, Lock, Answer, Painted, Refreshed, Shown, Locked, inside, names, putWords, putBlock, putAll, blockAt}
 use Rattle.machine.specs.Machine.{store, redraw, headerOf, relock, step}
-use Rattle.machine.specs.Calls.{isStale, staleOf, sideLong, refusalHeader, refusalAll, refusalLent, refusalPaint, refusalShow, PaintEnd, RefreshEnd, ShowEnd, LockEnd}
+use Rattle.machine.specs.Calls.{isStale, staleOf, sideLong, refusalHeader, refusalClarity, refusalAll, refusalLent, refusalPaint}
+use Rattle.machine.specs.Calls.{refusalShow, refusalLock, PaintEnd, RefreshEnd, ShowEnd, LockEnd}
 use Rattle.machine.specs.Calls.{paintEnd, refreshEnd, showEnd, lockEnd, Paints, Refreshes, Shows, Locks}
 use Rattle.machine.specs.Demand3.{Buffers, byteOf, latest}
 use Rattle.machine.proofs.Places.{block-lt, spot-lt}
@@ -85,13 +87,13 @@ module _ (S : Screen) (L : Lawful S) (w h : ℕ) where
       ap (putWords S w h (b % w) (b / w) (suc k) xs) (set-append-left out rest i x (omega arith))
       ∙ putWords-append b (suc k) xs (set out i x) rest l (length-set out i x ∙ n) (omega arith)
 
-  putAll-append : (picture bs out rest : List ℕ) → Below (w * h) bs → length out ≡ blockWords S * (w * h)
-      → putAll S w h picture bs (out ++ rest) ≡ putAll S w h picture bs out ++ rest
-  putAll-append picture [] out rest l n = refl
-  putAll-append picture (b ∷ bs) out rest l n =
-      ap (putAll S w h picture bs)
-      (putWords-append b 0 (S .draw w h picture (b % w) (b / w)) out rest (l .0) n (omega (arith, L .draw-length w h picture (b % w) (b / w))))
-      ∙ putAll-append picture bs (putBlock S w h picture b out) rest (l .1) (length-putBlock S w h picture b out ∙ n)
+  putAll-append : (q : Clarity) (picture bs out rest : List ℕ) → Below (w * h) bs → length out ≡ blockWords S * (w * h)
+      → putAll S w h q picture bs (out ++ rest) ≡ putAll S w h q picture bs out ++ rest
+  putAll-append q picture [] out rest l n = refl
+  putAll-append q picture (b ∷ bs) out rest l n =
+      ap (putAll S w h q picture bs)
+      (putWords-append b 0 (S .draw q w h picture (b % w) (b / w)) out rest (l .0) n (omega (arith, L .draw-length q w h picture (b % w) (b / w))))
+      ∙ putAll-append q picture bs (putBlock S w h q picture b out) rest (l .1) (length-putBlock S w h q picture b out ∙ n)
 
   pub block-append : (to : List ℕ) (s : State) → Good S w h s → (bx by : ℕ) → bx < w → by < h
       → blockAt S w h bx by (s .output ++ to) ≡ blockAt S w h bx by (s .output)
@@ -114,21 +116,29 @@ module _ (S : Screen) (L : Lawful S) (w h : ℕ) (sides : sideLong (S .side) w h
   beyond-header : (x : ℕ) → refusalHeader (S .side) header x ≡ x
   beyond-header x = beyond (sideLong (S .side) w h) (past w h (s .lock)) 1 10 x sides (g .lock-inside)
 
+  -- nor is its setting
+  beyond-clarity : (x : ℕ) → refusalClarity header x ≡ x
+  beyond-clarity x = ap (λ (t : Bool). cond (not t) 13 x) (g .setting-lawful)
+
   refusal-none : refusalAll (S .side) (blockWords S) header (length (s .picture ++ tp)) (length (s .output ++ to)) (length (bytes s ++ tm)) ≡ 0
   refusal-none =
-      let m : ℕ = cond (ltb (length (bytes s ++ tm)) (w * h)) 4 0 in
+      let c : ℕ = refusalClarity header 0 in
+      let m : ℕ = cond (ltb (length (bytes s ++ tm)) (w * h)) 4 c in
       let o : ℕ = cond (ltb (length (s .output ++ to)) (blockWords S * (w * h))) 3 m in
       beyond-header (cond (ltb (length (s .picture ++ tp)) (w * h)) 2 o)
       ∙ beyond (ltb (length (s .picture ++ tp)) (w * h)) (ltb (length (s .output ++ to)) (blockWords S * (w * h))) 2 3 m (picture-long S w h s g tp)
       (output-long S w h s g to)
-      ∙ ap (λ (t : Bool). cond {A = ℕ} t 4 0) (marks-long S w h s g tm)
+      ∙ ap (λ (t : Bool). cond {A = ℕ} t 4 c) (marks-long S w h s g tm)
+      ∙ beyond-clarity 0
 
-  -- nor are the lengths of picture and marks
+  -- nor are the lengths of picture and marks, and the setting
   pub beyond-lent : (x : ℕ) → refusalLent (S .side) header (length (s .picture ++ tp)) (length (bytes s ++ tm)) x ≡ x
   beyond-lent x =
-      let short : ℕ = cond (ltb (length (bytes s ++ tm)) (w * h)) 4 x in
+      let c : ℕ = refusalClarity header x in
+      let short : ℕ = cond (ltb (length (bytes s ++ tm)) (w * h)) 4 c in
       beyond-header (cond (ltb (length (s .picture ++ tp)) (w * h)) 2 short)
-      ∙ beyond (ltb (length (s .picture ++ tp)) (w * h)) (ltb (length (bytes s ++ tm)) (w * h)) 2 4 x (picture-long S w h s g tp) (marks-long S w h s g tm)
+      ∙ beyond (ltb (length (s .picture ++ tp)) (w * h)) (ltb (length (bytes s ++ tm)) (w * h)) 2 4 c (picture-long S w h s g tp) (marks-long S w h s g tm)
+      ∙ beyond-clarity x
 
   pub paint-held : (column row word : ℕ) (d : PaintEnd) → Paints S header (s .picture ++ tp) (bytes s ++ tm) column row word d
       → _≡_ {A = Buffers × Answer}
@@ -226,7 +236,7 @@ module _ (S : Screen) (L : Lawful S) (w h : ℕ) (sides : sideLong (S .side) w h
       done l =
           let blocks = first (min n (count l)) l in
           record {
-            output = putAll S w h (take (w * h) P) blocks O;
+            output = putAll S w h (s .clarity) (take (w * h) P) blocks O;
             marks = setAll blocks 0 M;
             refusal = 0;
             drawn = min n (count l);
@@ -251,8 +261,8 @@ module _ (S : Screen) (L : Lawful S) (w h : ℕ) (sides : sideLong (S .side) w h
       machine : by-stale (s .stale) ≡ turned (t, Refreshed 0 k (count (t .stale)))
       machine =
           let low : Below (w * h) bs = subst (λ (m : ℕ). Below m bs) (g .stale-length) (first-below k (s .stale)) in
-          let o : putAll S w h (take (w * h) P) bs O ≡ t .output ++ to =
-          ap (λ (p : List ℕ). putAll S w h p bs O) (picture-held S w h s g tp) ∙ putAll-append S L w h (s .picture) bs (s .output) to low (g .output-length) in
+          let o : putAll S w h (s .clarity) (take (w * h) P) bs O ≡ t .output ++ to =
+          ap (λ (p : List ℕ). putAll S w h (s .clarity) p bs O) (picture-held S w h s g tp) ∙ putAll-append S L w h (s .clarity) (s .picture) bs (s .output) to low (g .output-length) in
           let m : setAll bs 0 M ≡ bytes t ++ tm =
           setAll-append bs 0 (bytes s) tm (subst (λ (m : ℕ). Below m bs) (sym (bytes-length S w h s g)) low)
           ∙ ap (λ (l : List ℕ). l ++ tm) (setAll-bytes bs (s .stale)) in
@@ -285,8 +295,10 @@ module _ (S : Screen) (L : Lawful S) (w h : ℕ) (sides : sideLong (S .side) w h
       sized : refusalShow (S .side) (blockWords S) header (length O) M bx by ≡ cond (inside w h bx by) (cond (isStale (getD M at 0)) 7 0) 5
       sized =
           let x : ℕ = cond (inside w h bx by) (cond (isStale (getD M at 0)) 7 0) 5 in
-          beyond-header (cond (ltb (length O) (blockWords S * (w * h))) 3 (cond (ltb (length M) (w * h)) 4 x))
-          ∙ beyond (ltb (length O) (blockWords S * (w * h))) (ltb (length M) (w * h)) 3 4 x (output-long S w h s g to) (marks-long S w h s g tm)
+          let c : ℕ = refusalClarity header x in
+          beyond-header (cond (ltb (length O) (blockWords S * (w * h))) 3 (cond (ltb (length M) (w * h)) 4 c))
+          ∙ beyond (ltb (length O) (blockWords S * (w * h))) (ltb (length M) (w * h)) 3 4 c (output-long S w h s g to) (marks-long S w h s g tm)
+          ∙ beyond-clarity x
 
       by-mark : (b : Bool) → blockAt S w h bx by O ≡ blockAt S w h bx by (s .output)
           → turn (choice (cond b 7 0)) ≡ cond b (Shown 7 no-words) (Shown 0 (blockAt S w h bx by (s .output)))
@@ -308,13 +320,17 @@ module _ (S : Screen) (L : Lawful S) (w h : ℕ) (sides : sideLong (S .side) w h
   pub lock-held : (r : Rectangle) (d : LockEnd) → Locks S header r d
       → _≡_ {A = Header × Answer} (latest header d, Locked (d .refusal) (d .header)) (headerOf w h (step S w h (Lock r) s .0), step S w h (Lock r) s .1)
   unfolding lockEnd
-  lock-held r d q = ap turn (q .is) ∙ ap (λ (f : ℕ). turn (choice f)) (beyond-header (cond (past w h r) 10 0)) ∙ by-past (past w h r)
+  lock-held r d q = ap turn (q .is) ∙ ap (λ (f : ℕ). turn (choice f)) sized ∙ by-past (past w h r)
     where
       turn : LockEnd → Header × Answer
       turn d = (latest header d, Locked (d .refusal) (d .header))
 
       choice : ℕ → LockEnd
       choice f = cond (eqb f 0) (record { refusal = 0; header = withLock header r }) (record { refusal = f; header = noHeader })
+
+      sized : refusalLock (S .side) header r ≡ cond (past w h r) 10 0
+      sized =
+          beyond-header (cond (past w h r) 10 (refusalClarity header 0)) ∙ ap (λ (x : ℕ). cond {A = ℕ} (past w h r) 10 x) (beyond-clarity 0)
 
       machine : Bool → State × Answer
       machine p = cond p (s, Locked 10 noHeader) (relock r s, Locked 0 (headerOf w h (relock r s)))

@@ -20,7 +20,7 @@ use Rattle.machine.specs.Calls.{staleOf, refusalLent, refusalPaint, refu
 use Rattle.machine.specs.Items.{refusalItems, StoresWord, StoresItems}
 use Rattle.machine.specs.Lent.{LentList}
 use Rattle.machine.proofs.Held.{unmet}
-use Rattle.machine.proofs.Ends.{decided, header-lent}
+use Rattle.machine.proofs.Ends.{decided, header-lent, lent-after}
 use Rattle.machine.proofs.PaintEnds.{number-of, picture-length, marks-length}
 use Rattle.machine.proofs.Turns.{number-at-start}
 
@@ -112,14 +112,14 @@ module _ (S : Screen) (header : Header) where
             wide = q .0;
             high = q .1;
             for-marks = ltb-false (length m) (w * h) (for-m .0);
-            few = ltb-false 64 n (unmet (ltb 64 n) 11 _ (for-m .1) .0);
+            few = ltb-false 64 n (unmet (ltb 64 n) 11 _ (lent-after (S .side) header (length p) (length m) _ (sym e ∙ z)) .0);
           }
 
       -- none of its items is refused at its turn
       pub items-taken : itemsEnd S header (take n a) p m .refusal ≡ 0
       items-taken =
-          let q = header-lent S header _ (number-at-start S header p m (take n a) n ∙ sym e ∙ z) in
-          unmet (ltb 64 n) 11 _ (unmet (ltb (length m) (header .w * header .h)) 3 _ (unmet (ltb (length p) (header .w * header .h)) 1 _ (q .2) .1) .1) .1
+          unmet (ltb 64 n) 11 _
+          (lent-after (S .side) header (length p) (length m) _ (number-at-start S header p m (take n a) n ∙ sym e ∙ z)) .1
 
       pub list-done : (p′ m′ : List ℕ) (l : ℕ) → StoresItems S header p m (take n a) p′ m′ → l ≡ count (staleOf (header .w * header .h) m′)
           → PaintLists S header p m (listed n a) (record { picture = p′; marks = m′; refusal = 0; stale = l })

@@ -6,6 +6,7 @@ use Prim.Native.Nat.{ℕ, _+_, _*_, _<_}
 use native.Mathlib.Omega.{arith}
 use lib.ListN.{getD, drop, List·getD-append}
 use lib.Seq.{getD-set-other}
+use Rattle.clarity.specs.declared.Clarity.{Clarity}
 use Rattle.header.specs.declared.Header.{Header}
 use Rattle.header.specs.Header.{locked}
 use Rattle.header.proofs.Laws.{locked-inside}
@@ -58,16 +59,16 @@ module _ (S : Screen) (L : Lawful S) (w h column row : ℕ) where
   locked-kept (show r) s g e = locked-kept r s g e
 
 -- from wherever a list ended: what its last header locks, a further list without a lock leaves in the picture buffer as it was
-module _ (S : Screen) (L : Lawful S) {w h stale : ℕ} {b e : Buffers} {cs : List Call} {rs : List Answer} {last : Header}
-    (t : Trace S w h b stale cs rs last e) where
+module _ (S : Screen) (L : Lawful S) {w h stale : ℕ} {c : Clarity} {b e : Buffers} {cs : List Call} {rs : List Answer} {last : Header}
+    (t : Trace S w h c b stale cs rs last e) where
   pub locked-stays : {more-calls : List Call} {rs′ : List Answer} {last′ : Header} {e′ : Buffers} → LocksNothing more-calls
       → Ran S last e more-calls rs′ last′ e′ → (column row : ℕ) → locked (last .lock) column row ≡ true
       → getD (e′ .picture) (row * w + column) 0 ≡ getD (e .picture) (row * w + column) 0
   locked-stays {more-calls} n r column row k =
-      let m = met S L w h b t in
-      let g = good-met S L w h b t in
-      let now = ended S L w h b t in
-      let then = more S L w h b t r m g (now .0) (now .1) in
+      let m = met S L w h c b t in
+      let g = good-met S L w h c b t in
+      let now = ended S L w h c b t in
+      let then = more S L w h c b t r m g (now .0) (now .1) in
       let e : locked (m .lock) column row ≡ true = ap (λ (header : Header). locked (header .lock) column row) (sym (now .0)) ∙ k in
       let i = locked-inside (m .lock) w h column row (g .lock-inside) e in
       let at : row * w + column < w * h = block-lt (i .0) (i .1) in

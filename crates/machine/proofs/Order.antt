@@ -12,6 +12,7 @@ use lib.ListN.{length, getD, set}
 use lib.Seq.{getD-set-other, ext-getD}
 use borrow.Author.Tests.{eq-eqb, ne-eqb, eqb-true}
 use Rattle.picture.proofs.Bools.{or-left, or-right}
+use Rattle.clarity.specs.declared.Clarity.{Clarity}
 use Rattle.machine.specs.Lists.{table, setAll, has, count, firstFrom}
 use Rattle.machine.specs.Screen.{Screen, Lawful, blockWords}
 use Rattle.machine.specs.Machine.{putBlock, putAll}
@@ -114,32 +115,32 @@ setAll-same bs cs m e =
 
 -- ---- blocks, in an output that may be longer than all of them
 
-module _ (S : Screen) (L : Lawful S) (w h : ℕ) (p : List ℕ) where
+module _ (S : Screen) (L : Lawful S) (w h : ℕ) (q : Clarity) (p : List ℕ) where
   -- word k of block b, once some blocks are drawn
   pub getD-putAll : (bs out : List ℕ) (b k : ℕ) → Below (w * h) bs → blockWords S * (w * h) ≤ length out → b < w * h → k < blockWords S
-      → getD (putAll S w h p bs out) (spotOf S w h b k) 0 ≡ cond (has bs b) (getD (drawn S w h p b) k 0) (getD out (spotOf S w h b k) 0)
+      → getD (putAll S w h q p bs out) (spotOf S w h b k) 0 ≡ cond (has bs b) (getD (drawn S w h q p b) k 0) (getD out (spotOf S w h b k) 0)
   getD-putAll [] out b k low n l m = refl
   getD-putAll (c ∷ bs) out b k low n l m =
-      getD-putAll bs (putBlock S w h p c out) b k (low .1) (omega (arith, length-putBlock S w h p c out)) l m
-      ∙ ap (λ (x : ℕ). cond (has bs b) (getD (drawn S w h p b) k 0) x) (put-at S L w h p c out b k (low .0) n l m)
-      ∙ sym (or-cond (has bs b) (eqb b c) (getD (drawn S w h p b) k 0) (getD out (spotOf S w h b k) 0))
+      getD-putAll bs (putBlock S w h q p c out) b k (low .1) (omega (arith, length-putBlock S w h q p c out)) l m
+      ∙ ap (λ (x : ℕ). cond (has bs b) (getD (drawn S w h q p b) k 0) x) (put-at S L w h q p c out b k (low .0) n l m)
+      ∙ sym (or-cond (has bs b) (eqb b c) (getD (drawn S w h q p b) k 0) (getD out (spotOf S w h b k) 0))
 
-  putAll-past : (bs out : List ℕ) (i : ℕ) → Below (w * h) bs → blockWords S * (w * h) ≤ i → getD (putAll S w h p bs out) i 0 ≡ getD out i 0
+  putAll-past : (bs out : List ℕ) (i : ℕ) → Below (w * h) bs → blockWords S * (w * h) ≤ i → getD (putAll S w h q p bs out) i 0 ≡ getD out i 0
   putAll-past [] out i low far = refl
-  putAll-past (c ∷ bs) out i low far = putAll-past bs (putBlock S w h p c out) i (low .1) far ∙ put-past S L w h p c out i (low .0) far
+  putAll-past (c ∷ bs) out i low far = putAll-past bs (putBlock S w h q p c out) i (low .1) far ∙ put-past S L w h q p c out i (low .0) far
 
   pub putAll-same : (bs cs out : List ℕ) → Below (w * h) bs → Below (w * h) cs → blockWords S * (w * h) ≤ length out
-      → ((b : ℕ) → has bs b ≡ has cs b) → putAll S w h p bs out ≡ putAll S w h p cs out
+      → ((b : ℕ) → has bs b ≡ has cs b) → putAll S w h q p bs out ≡ putAll S w h q p cs out
   putAll-same bs cs out lb lc n e =
-      ext-getD 0 (putAll S w h p bs out) (putAll S w h p cs out) (length-putAll S w h p bs out ∙ sym (length-putAll S w h p cs out))
+      ext-getD 0 (putAll S w h q p bs out) (putAll S w h q p cs out) (length-putAll S w h q p bs out ∙ sym (length-putAll S w h q p cs out))
       (λ i l. by-place i (decLt i (blockWords S * (w * h))))
     where
-      by-place : (i : ℕ) → Dec (i < blockWords S * (w * h)) → getD (putAll S w h p bs out) i 0 ≡ getD (putAll S w h p cs out) i 0
-      by-place i (yes q) =
-          let o = spot-onto (S .scale) w (L .scaled) h i q in
-          ap (λ (j : ℕ). getD (putAll S w h p bs out) j 0) (sym (o .4))
+      by-place : (i : ℕ) → Dec (i < blockWords S * (w * h)) → getD (putAll S w h q p bs out) i 0 ≡ getD (putAll S w h q p cs out) i 0
+      by-place i (yes l) =
+          let o = spot-onto (S .scale) w (L .scaled) h i l in
+          ap (λ (j : ℕ). getD (putAll S w h q p bs out) j 0) (sym (o .4))
           ∙ getD-putAll bs out (o .0) (o .1) lb n (o .2) (o .3)
-          ∙ ap (λ (t : Bool). cond t (getD (drawn S w h p (o .0)) (o .1) 0) (getD out (spotOf S w h (o .0) (o .1)) 0)) (e (o .0))
+          ∙ ap (λ (t : Bool). cond t (getD (drawn S w h q p (o .0)) (o .1) 0) (getD out (spotOf S w h (o .0) (o .1)) 0)) (e (o .0))
           ∙ sym (getD-putAll cs out (o .0) (o .1) lc n (o .2) (o .3))
-          ∙ ap (λ (j : ℕ). getD (putAll S w h p cs out) j 0) (o .4)
-      by-place i (no q) = putAll-past bs out i lb (omega arith) ∙ sym (putAll-past cs out i lc (omega arith))
+          ∙ ap (λ (j : ℕ). getD (putAll S w h q p cs out) j 0) (o .4)
+      by-place i (no l) = putAll-past bs out i lb (omega arith) ∙ sym (putAll-past cs out i lc (omega arith))

@@ -17,8 +17,8 @@ use Rattle.machine.specs.Machine.{orElse, inside}
 use Rattle.machine.specs.Calls.{refusalWord, refusalLent, refusalList, PaintEnd, paintEnd, itemsEnd}
 use Rattle.machine.specs.Items.{refusalItems}
 use Rattle.machine.proofs.Places.{digits-same}
-use Rattle.machine.proofs.Held.{unmet, inside-of}
-use Rattle.machine.proofs.Ends.{decided, header-lent, lent-paint}
+use Rattle.machine.proofs.Held.{inside-of}
+use Rattle.machine.proofs.Ends.{decided, lent-after, lent-paint}
 use Rattle.machine.proofs.PaintEnds.{by-paint-end, number-of, picture-length, marks-length}
 
 -- a number that is 0 either way
@@ -70,7 +70,7 @@ module _ (S : Screen) (header : Header) where
       by-paint-end S header p m column row word (λ d. wordAt p column′ row′ ≡ wordAt (d .picture) column′ row′) (λ z. refl) (λ z q. refl)
       (λ z f.
       let l = lent-paint S header p (length m) column row word z in
-      let own = unmet (ltb (length m) (w * h)) 3 _ (unmet (ltb (length p) (w * h)) 1 _ (header-lent S header _ z .2) .1) .1 in
+      let own = lent-after (S .side) header (length p) (length m) _ z in
       sym (getD-set-other p (row * w + column) (row′ * w + column′) word 0
       (λ q. let d = digits-same row′ row w column′ column c′ (l .across) q in
       true≢false

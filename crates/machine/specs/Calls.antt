@@ -7,6 +7,8 @@ use Prim.Native.Nat.{ℕ, _+_, _*_, min}
 use lib.Dec.{ltb, eqb}
 use lib.ListN.{length, getD, set, take, drop, replicate}
 use Rattle.picture.specs.Refusal as refusal
+use Rattle.clarity.specs.declared.Clarity.{Clarity}
+use Rattle.clarity.specs.Clarity.{lawfulOf}
 use Rattle.header.specs.declared.Rectangle.{Rectangle}
 use Rattle.header.specs.declared.Header.{Header}
 use Rattle.header.specs.Header.{locked, past, fresh, withLock, noHeader}
@@ -78,6 +80,10 @@ abbrev pub refusalHeader : ℕ → Header → ℕ → ℕ
 refusalHeader side header next =
     cond (sideLong side (header .w) (header .h)) refusal.side (cond (past (header .w) (header .h) (header .lock)) refusal.lock next)
 
+-- of every call, after its buffers, by the header's setting: 13; where that is lawful, next decides
+abbrev pub refusalClarity : Header → ℕ → ℕ
+refusalClarity header next = cond (not (lawfulOf (header .clarity))) refusal.clarity next
+
 module _ (side words : ℕ) (header : Header) where
   -- of a call that is lent all three buffers: opening, for the header that it is to answer, and refresh
   abbrev pub refusalAll : ℕ → ℕ → ℕ → ℕ
@@ -86,7 +92,8 @@ module _ (side words : ℕ) (header : Header) where
       refusalHeader side header
       (cond (ltb p n) refusal.picture
       (cond (ltb o (words * n)) refusal.output
-      (cond (ltb m n) refusal.scratch refusal.none)))
+      (cond (ltb m n) refusal.scratch
+      (refusalClarity header refusal.none))))
 
   -- of show, which looks at the block's mark too
   abbrev pub refusalShow : ℕ → List ℕ → ℕ → ℕ → ℕ
@@ -95,9 +102,10 @@ module _ (side words : ℕ) (header : Header) where
       refusalHeader side header
       (cond (ltb o (words * n)) refusal.output
       (cond (ltb (length marks) n) refusal.scratch
+      (refusalClarity header
       (cond (inside (header .w) (header .h) bx by)
       (cond (isStale (getD marks (by * header .w + bx) 0)) refusal.stale refusal.none)
-      refusal.outside)))
+      refusal.outside))))
 
 -- of one paint, by its position and the word that is there: an equal one is not refused, be it locked or not
 abbrev pub refusalWord : Header → List ℕ → ℕ → ℕ → ℕ → ℕ
@@ -108,11 +116,11 @@ refusalWord header picture column row word =
     refusal.outside
 
 module _ (side : ℕ) (header : Header) where
-  -- of a call that is lent picture and marks, and no output; where it is not refused by their lengths, next decides
+  -- of a call that is lent picture and marks, and no output; where neither their lengths nor the setting refuse it, next decides
   abbrev pub refusalLent : ℕ → ℕ → ℕ → ℕ
   refusalLent p m next =
       let n = header .w * header .h in
-      refusalHeader side header (cond (ltb p n) refusal.picture (cond (ltb m n) refusal.scratch next))
+      refusalHeader side header (cond (ltb p n) refusal.picture (cond (ltb m n) refusal.scratch (refusalClarity header next)))
 
   -- of paint
   abbrev pub refusalPaint : List ℕ → ℕ → ℕ → ℕ → ℕ → ℕ
@@ -124,18 +132,19 @@ module _ (side : ℕ) (header : Header) where
 
   -- of a lock, which is lent the header alone and given a rectangle
   abbrev pub refusalLock : Rectangle → ℕ
-  refusalLock lock = refusalHeader side header (cond (past (header .w) (header .h) lock) refusal.lock refusal.none)
+  refusalLock lock =
+      refusalHeader side header (cond (past (header .w) (header .h) lock) refusal.lock (refusalClarity header refusal.none))
 
--- ---- opening: output words 0 and marks 1, as many as the picture asks for
-unfoldable pub openEnd : Screen → ℕ → ℕ → List ℕ → List ℕ → List ℕ → OpenEnd
-openEnd S w h picture output marks =
-    let r = refusalAll (S .side) (blockWords S) (fresh w h) (length picture) (length output) (length marks) in
+-- ---- opening, at a setting: output words 0 and marks 1, as many as the picture asks for
+unfoldable pub openEnd : Screen → ℕ → ℕ → Clarity → List ℕ → List ℕ → List ℕ → OpenEnd
+openEnd S w h clarity picture output marks =
+    let r = refusalAll (S .side) (blockWords S) (fresh w h clarity) (length picture) (length output) (length marks) in
     cond (eqb r 0)
     (record {
       output = replicate (blockWords S * (w * h)) 0 ++ drop (blockWords S * (w * h)) output;
       marks = replicate (w * h) 1 ++ drop (w * h) marks;
       refusal = 0;
-      header = fresh w h;
+      header = fresh w h clarity;
       stale = w * h;
     })
     (record { output = output; marks = marks; refusal = r; header = noHeader; stale = 0 })
@@ -172,7 +181,8 @@ module _ (S : Screen) (header : Header) where
       (record { picture = end .picture; marks = end .marks; refusal = 0; stale = count (staleOf (header .w * header .h) (end .marks)) })
       (record { picture = picture; marks = marks; refusal = r; stale = 0 })
 
-  -- ---- refresh: the first stale blocks in row order, n of them or all, drawn from the picture, with 0 at their marks
+  -- ---- refresh: the first stale blocks in row order, n of them or all, drawn from the picture by the header's setting, with 0 at their
+  -- marks
   unfoldable pub refreshEnd : List ℕ → List ℕ → List ℕ → ℕ → RefreshEnd
   refreshEnd picture output marks n =
       let w = header .w in
@@ -183,7 +193,7 @@ module _ (S : Screen) (header : Header) where
       let cleared = setAll blocks 0 marks in
       cond (eqb r 0)
       (record {
-        output = putAll S w h (take (w * h) picture) blocks output;
+        output = putAll S w h (header .clarity) (take (w * h) picture) blocks output;
         marks = cleared;
         refusal = 0;
         drawn = k;
@@ -206,8 +216,8 @@ module _ (S : Screen) (header : Header) where
 
 -- ---- the calls' contracts: from the buffers at entry, what is left and answered is e
 
-pub record Opens (S : Screen) (w h : ℕ) (picture output marks : List ℕ) (e : OpenEnd) : Type 0 where
-  pub is : e ≡ openEnd S w h picture output marks
+pub record Opens (S : Screen) (w h : ℕ) (clarity : Clarity) (picture output marks : List ℕ) (e : OpenEnd) : Type 0 where
+  pub is : e ≡ openEnd S w h clarity picture output marks
 
 module _ (S : Screen) (header : Header) where
   pub record Paints (picture marks : List ℕ) (column row word : ℕ) (e : PaintEnd) : Type 0 where

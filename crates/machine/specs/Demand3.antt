@@ -6,6 +6,8 @@ use mathlib.Core.List.{List, [], _∷_, map}
 use Prim.Native.Nat.{ℕ, suc, _+_, _-_, _*_, _<_}
 use lib.Dec.{eqb}
 use lib.ListN.{getD, take, drop, replicate}
+use Rattle.clarity.specs.declared.Clarity.{Clarity}
+use Rattle.clarity.specs.Clarity.{plainly}
 use Rattle.header.specs.declared.Rectangle.{Rectangle}
 use Rattle.header.specs.declared.Header.{Header}
 use Rattle.paints.specs.declared.Paint.{Paint as Item}
@@ -52,13 +54,14 @@ pub data Ran (S : Screen) : Header → Buffers → List Call → List Answer →
       → Ran S (latest header d) b cs rs last e
       → Ran S header b (Lock r ∷ cs) (Locked (d .refusal) (d .header) ∷ rs) last e
 
--- an opening, given w and h, that is lent b, is not refused and answers the stale count; and a list of calls from where it ends,
+-- an opening, given w, h and a setting, that is lent b, is not refused and answers the stale count; and a list of calls from where it ends,
 -- the first of them lent the header that the opening answered
-pub record Trace (S : Screen) (w h : ℕ) (b : Buffers) (stale : ℕ) (cs : List Call) (rs : List Answer) (last : Header) (e : Buffers) : Type 0 where
+pub record Trace (S : Screen) (w h : ℕ) (clarity : Clarity) (b : Buffers) (stale : ℕ) (cs : List Call) (rs : List Answer) (last : Header) (e : Buffers)
+    : Type 0 where
   pub header : Header
   pub output : List ℕ
   pub marks : List ℕ
-  pub opens : Opens S w h (b .picture) (b .output) (b .marks)
+  pub opens : Opens S w h clarity (b .picture) (b .output) (b .marks)
       (record { output = output; marks = marks; refusal = 0; header = header; stale = stale })
   pub ran : Ran S header (record { picture = b .picture; output = output; marks = marks }) cs rs last e
 
@@ -77,13 +80,13 @@ byteOf true = 1
 byteOf false = 0
 
 module _ (S : Screen) (w h : ℕ) where
-  -- a picture enlarged whole: every block drawn
-  abbrev pub whole : List ℕ → List ℕ
-  whole picture = putAll S w h picture (table (w * h) (λ b. b)) (replicate (blockWords S * (w * h)) 0)
+  -- a picture enlarged whole at a setting: every block drawn
+  abbrev pub whole : Clarity → List ℕ → List ℕ
+  whole clarity picture = putAll S w h clarity picture (table (w * h) (λ b. b)) (replicate (blockWords S * (w * h)) 0)
 
-  -- the machine, given the opening's w, h and the first w * h words of its picture buffer
-  abbrev pub started : Buffers → State
-  started b = opened S w h (take (w * h) (b .picture))
+  -- the machine, given the opening's w, h and setting and the first w * h words of its picture buffer
+  abbrev pub started : Clarity → Buffers → State
+  started clarity b = opened S w h clarity (take (w * h) (b .picture))
 
   -- the stale count, by the marks
   abbrev pub left : Buffers → ℕ
@@ -99,16 +102,17 @@ module _ (S : Screen) (w h : ℕ) where
     pub output-rest : drop (blockWords S * (w * h)) (e .output) ≡ drop (blockWords S * (w * h)) (b .output)
     pub marks-rest : drop (w * h) (e .marks) ≡ drop (w * h) (b .marks)
 
-  -- of a list: b the buffers that the opening was lent, stale its count, rs the answers, last and e the header and the buffers that
-  -- the list left
-  pub record Follows (b : Buffers) (stale : ℕ) (cs : List Call) (rs : List Answer) (last : Header) (e : Buffers) : Type 0 where
-    pub same-count : stale ≡ count (started b .stale)
-    pub same-answers : rs ≡ answers S w h cs (started b)
-    pub same-state : Holds (after S w h cs (started b)) b last e
-    -- a block that is not stale shows what enlarging the present picture whole puts there, which is the block as sections 1 to 6 draw it
-    pub blocks : (bx by : ℕ) → bx < w → by < h → getD (after S w h cs (started b) .stale) (by * w + bx) true ≡ false
-        → (blockAt S w h bx by (e .output) ≡ blockAt S w h bx by (whole (take (w * h) (e .picture))))
-        × (blockAt S w h bx by (e .output) ≡ S .draw w h (take (w * h) (e .picture)) bx by)
+  -- of a list: clarity the setting that the opening was given, b the buffers that it was lent, stale its count, rs the answers, last and e
+  -- the header and the buffers that the list left
+  pub record Follows (clarity : Clarity) (b : Buffers) (stale : ℕ) (cs : List Call) (rs : List Answer) (last : Header) (e : Buffers) : Type 0 where
+    pub same-count : stale ≡ count (started clarity b .stale)
+    pub same-answers : rs ≡ answers S w h cs (started clarity b)
+    pub same-state : Holds (after S w h cs (started clarity b)) b last e
+    -- a block that is not stale shows what enlarging the present picture whole at the session's setting puts there, which is the block as
+    -- sections 1 to 6 draw it
+    pub blocks : (bx by : ℕ) → bx < w → by < h → getD (after S w h cs (started clarity b) .stale) (by * w + bx) true ≡ false
+        → (blockAt S w h bx by (e .output) ≡ blockAt S w h bx by (whole clarity (take (w * h) (e .picture))))
+        × (blockAt S w h bx by (e .output) ≡ S .draw clarity w h (take (w * h) (e .picture)) bx by)
     -- s stale blocks, and k further refreshes of n, leave the larger of 0 and s - k * n
     pub counts-down : (n k : ℕ) (more : List Call) (rs′ : List Answer) (last′ : Header) (e′ : Buffers) → Further n k more
         → Ran S last e more rs′ last′ e′ → left e′ ≡ left e - k * n
@@ -121,7 +125,8 @@ module _ (S : Screen) (w h : ℕ) where
       → take (blockWords S * (w * h)) (e .output) ≡ take (blockWords S * (w * h)) (e′ .output)
 
 pub record Demand3 (S : Screen) : Type 0 where
-  pub each : {w h stale : ℕ} {b e : Buffers} {cs : List Call} {rs : List Answer} {last : Header} → Trace S w h b stale cs rs last e
-      → Follows S w h b stale cs rs last e
-  pub two : {w h stale stale′ : ℕ} {b b′ e e′ : Buffers} {cs cs′ : List Call} {rs rs′ : List Answer} {last last′ : Header}
-      → Trace S w h b stale cs rs last e → Trace S w h b′ stale′ cs′ rs′ last′ e′ → SameOutput S w h e e′
+  pub each : {w h stale : ℕ} {c : Clarity} {b e : Buffers} {cs : List Call} {rs : List Answer} {last : Header}
+      → Trace S w h c b stale cs rs last e → Follows S w h c b stale cs rs last e
+  -- of two sessions whose settings count as equal
+  pub two : {w h stale stale′ : ℕ} {c c′ : Clarity} {b b′ e e′ : Buffers} {cs cs′ : List Call} {rs rs′ : List Answer} {last last′ : Header}
+      → plainly c ≡ plainly c′ → Trace S w h c b stale cs rs last e → Trace S w h c′ b′ stale′ cs′ rs′ last′ e′ → SameOutput S w h e e′

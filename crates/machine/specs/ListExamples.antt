@@ -8,6 +8,7 @@ use Prim.Native.Nat.{ℕ, _+_, _*_}
 use lib.Dec.{eqb}
 use lib.ListN.{getD}
 use Rattle.picture.specs.Refusal as refusal
+use Rattle.clarity.specs.declared.Clarity.the-variants.{Standard}
 use Rattle.header.specs.declared.Rectangle.{Rectangle}
 use Rattle.header.specs.declared.Header.{Header}
 use Rattle.header.specs.Header.{locked, past}
@@ -22,14 +23,14 @@ small = record {
   scale = 1;
   side = 3;
   touches = λ column row bx by. eqb column bx && eqb row by;
-  draw = λ w h picture bx by. getD picture (by * w + bx) 0 ∷ [];
+  draw = λ clarity w h picture bx by. getD picture (by * w + bx) 0 ∷ [];
 }
 
 abbrev last : Rectangle
 last = record { left = 2; top = 0; width = 1; height = 1 }
 
 abbrev header : Header
-header = record { w = 3; h = 1; lock = last }
+header = record { w = 3; h = 1; lock = last; clarity = Standard }
 
 -- a word for the pixel of a column
 abbrev at : ℕ → ℕ → Paint
@@ -84,14 +85,14 @@ call-lists = (refl, refl, refl, refl, refl, refl, refl, refl)
 
 -- ---- the machine
 abbrev start : State
-start = record { picture = 7 ∷ 8 ∷ 9 ∷ []; stale = false ∷ true ∷ false ∷ []; output = 7 ∷ 8 ∷ 9 ∷ []; lock = last }
+start = record { picture = 7 ∷ 8 ∷ 9 ∷ []; stale = false ∷ true ∷ false ∷ []; output = 7 ∷ 8 ∷ 9 ∷ []; lock = last; clarity = Standard }
 
 abbrev done : List Paint → State × Answer
 done items = step small 3 1 (PaintList items) start
 
 -- the state with other words in the first two pixels and their blocks stale
 abbrev with : ℕ → ℕ → State
-with a b = record { picture = a ∷ b ∷ 9 ∷ []; stale = true ∷ true ∷ false ∷ []; output = 7 ∷ 8 ∷ 9 ∷ []; lock = last }
+with a b = record { picture = a ∷ b ∷ 9 ∷ []; stale = true ∷ true ∷ false ∷ []; output = 7 ∷ 8 ∷ 9 ∷ []; lock = last; clarity = Standard }
 
 pub machine-lists : (done none ≡ (start, PaintedList 0 1))
     × (done two ≡ (with 5 6, PaintedList 0 2))

@@ -1,4 +1,4 @@
--- Section 7's plain machine, for a picture of w by h on a screen S. It is given the opening's w, h and picture and each call's own
+-- Section 7's plain machine, for a picture of w by h on a screen S. It is given the opening's w, h, setting and picture and each call's own
 -- arguments; it takes nothing from the program. Definitions only. Blocks are numbered in row order: block b is (b % w, b / w).
 use mathlib.Core.Bool.{Bool, true, false, cond, _&&_}
 use mathlib.Core.List.{List, [], _∷_}
@@ -6,6 +6,7 @@ use Prim.Native.Nat.{ℕ, zero, suc, _+_, _*_, _/_, _%_, min}
 use lib.Dec.{ltb, eqb}
 use lib.ListN.{length, getD, set, replicate}
 use Rattle.picture.specs.Refusal as refusal
+use Rattle.clarity.specs.declared.Clarity.{Clarity}
 use Rattle.header.specs.declared.Rectangle.{Rectangle}
 use Rattle.header.specs.declared.Header.{Header}
 use Rattle.header.specs.Header.{locked, past, noLock, noHeader}
@@ -24,6 +25,8 @@ pub record State : Type 0 where
   pub output : List ℕ
   -- the locked rectangle
   pub lock : Rectangle
+  -- the setting that blocks are drawn by; no call alters it
+  pub clarity : Clarity
 
 -- a call, with its arguments other than header, picture, output and marks
 pub data Call : Type 0 where
@@ -61,11 +64,11 @@ inside w h column row = ltb column w && ltb row h
 
 -- the header that belongs to a state
 abbrev pub headerOf : ℕ → ℕ → State → Header
-headerOf w h s = record { w = w; h = h; lock = s .lock }
+headerOf w h s = record { w = w; h = h; lock = s .lock; clarity = s .clarity }
 
 -- the rectangle locked in place of the one before
 abbrev pub relock : Rectangle → State → State
-relock r s = record { picture = s .picture; stale = s .stale; output = s .output; lock = r }
+relock r s = record { picture = s .picture; stale = s .stale; output = s .output; lock = r; clarity = s .clarity }
 
 module _ (S : Screen) (w h : ℕ) where
   -- block b lies inside the picture, and a changing paint at (column, row) names it
@@ -77,26 +80,27 @@ module _ (S : Screen) (w h : ℕ) where
   putWords bx by k [] output = output
   putWords bx by k (x ∷ xs) output = putWords bx by (suc k) xs (set output (place S w bx by k) x)
 
-  -- block b drawn from a picture
-  abbrev pub putBlock : List ℕ → ℕ → List ℕ → List ℕ
-  putBlock picture b output = putWords (b % w) (b / w) 0 (S .draw w h picture (b % w) (b / w)) output
+  -- block b drawn from a picture, at a setting
+  abbrev pub putBlock : Clarity → List ℕ → ℕ → List ℕ → List ℕ
+  putBlock clarity picture b output = putWords (b % w) (b / w) 0 (S .draw clarity w h picture (b % w) (b / w)) output
 
-  -- each of some blocks drawn from a picture
-  abbrev pub putAll : List ℕ → List ℕ → List ℕ → List ℕ
-  putAll picture [] output = output
-  putAll picture (b ∷ bs) output = putAll picture bs (putBlock picture b output)
+  -- each of some blocks drawn from a picture, at a setting
+  abbrev pub putAll : Clarity → List ℕ → List ℕ → List ℕ → List ℕ
+  putAll clarity picture [] output = output
+  putAll clarity picture (b ∷ bs) output = putAll clarity picture bs (putBlock clarity picture b output)
 
   -- the words of block (bx, by) in the output, row by row
   abbrev pub blockAt : ℕ → ℕ → List ℕ → List ℕ
   blockAt bx by output = table (blockWords S) (λ k. getD output (place S w bx by k) 0)
 
-  -- ---- opening: all blocks stale, output words 0, nothing locked
-  abbrev pub opened : List ℕ → State
-  opened picture = record {
+  -- ---- opening, at a setting: all blocks stale, output words 0, nothing locked
+  abbrev pub opened : Clarity → List ℕ → State
+  opened clarity picture = record {
     picture = picture;
     stale = replicate (w * h) true;
     output = replicate (blockWords S * (w * h)) 0;
     lock = noLock;
+    clarity = clarity;
   }
 
   -- ---- a paint of another word: it is stored, and the blocks that the paint names become stale
@@ -106,6 +110,7 @@ module _ (S : Screen) (w h : ℕ) where
     stale = stamp (names column row) true (s .stale);
     output = s .output;
     lock = s .lock;
+    clarity = s .clarity;
   }
 
   -- ---- the first k stale blocks in row order drawn from the present picture, and not stale
@@ -113,13 +118,14 @@ module _ (S : Screen) (w h : ℕ) where
   redraw k s = record {
     picture = s .picture;
     stale = setAll (first k (s .stale)) false (s .stale);
-    output = putAll (s .picture) (first k (s .stale)) (s .output);
+    output = putAll (s .clarity) (s .picture) (first k (s .stale)) (s .output);
     lock = s .lock;
+    clarity = s .clarity;
   }
 
   -- ---- a call: the state after it, and its answer. Of the refusals only 5, 7, 10 of a lock that is given, 11 and 12 are the machine's:
-  -- the opening was not refused, so the sides are within their limit, the machine takes no lock that reaches past the picture, and it has
-  -- no buffer that could be short.
+  -- the opening was not refused, so the sides are within their limit and the setting is lawful, the machine takes no lock that reaches past
+  -- the picture, and it has no buffer that could be short.
 
   -- a paint
   abbrev pub paint : ℕ → ℕ → ℕ → State → State × Answer

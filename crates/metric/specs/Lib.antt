@@ -1,3 +1,2 @@
 pub mod Distance
 pub mod Metric
-pub mod Weight

@@ -1,13 +1,11 @@
-// Distances, metrics and corner weights: `color_distance`, `unpack_norm`, `compute_metrics`, `corner_weight` and
-// `compute_corner_weights` of scalefx.rs. Each operation is rounded once, in the order in which the source writes it.
+// Distances and metrics: `color_distance`, `unpack_norm` and `compute_metrics` of scalefx.rs, and the record of the weights that the next
+// pass makes of them. Each operation is rounded once, in the order in which the source writes it.
 ghost use mathlib.Core.Path.{_≡_};
 ghost use mathlib.Core.Bool.{cond};
 ghost use Prim.Native.Nat.{_%_, _^_, _≤_};
 ghost use lib.Dec.{eqb};
-ghost use lib.Ieee.{neg};
 ghost use Rattle.metric.specs.Distance.{redOf, greenOf, blueOf, norm, distanceOf};
 ghost use Rattle.metric.specs.Metric.{metricOf};
-ghost use Rattle.metric.specs.Weight.{cornerWeightOf, weightsOf};
 
 // A word's channels, each from 0 to 1.
 struct Rgb {
@@ -153,70 +151,10 @@ pub fn metric_of(c: u32, tl: u32, t: u32, tr: u32, r: u32, k: Known) -> Measured
 // The source's [f32; 2].
 pub struct Pair(pub f32, pub f32);
 
-const CLARITY_THRESHOLD: f32 = 0.50;
-
-// The bias, turned where the second axis is the stronger.
-fn stronger_axis(first: bool, bias: f32) -> f32
-    ensures { λ r. ⌜ r ≡ cond first bias (neg bias) ⌝ }
-{
-    if first { bias } else { -bias }
-}
-
-// The source's `corner_weight`, of the distances at a corner: 0 where edge_dist, that of the two pixels on its sides, is at least the
-// threshold.
-fn corner_weight(edge_dist: f32, primary: Pair, secondary: Pair) -> f32
-    ensures { λ r. ⌜ r ≡ cornerWeightOf «edge_dist» (primary .0) (primary .1) (secondary .0) (secondary .1) ⌝ }
-{
-    let proximity = single::max(CLARITY_THRESHOLD - edge_dist, 0.0) / CLARITY_THRESHOLD;
-    let bias = primary.0 - primary.1;
-    let first = single::min(primary.0, secondary.0) + primary.0
-        > single::min(primary.1, secondary.1) + primary.1;
-    let direction = single::clamp(1.0 - edge_dist + stronger_axis(first, bias), 0.0, 1.0);
-    proximity * direction * primary.0 * primary.1
-}
-
-// A pixel's weights: its corners top-left, top-right, bottom-right and bottom-left.
+// A pixel's weights: its corners top-left, top-right, bottom-right and bottom-left. The crate `weight` has what they are.
 pub struct Weights {
     pub w0: f32,
     pub w1: f32,
     pub w2: f32,
     pub w3: f32,
-}
-
-// The weights of a pixel, of the metrics around it.
-pub fn weights_of(
-    tl: Metric,
-    t: Metric,
-    l: Metric,
-    c: Metric,
-    r: Metric,
-    bl: Metric,
-    b: Metric,
-    br: Metric,
-) -> Weights
-    ensures { λ q. ⌜ q ≡ weightsOf tl t l c r bl b br ⌝ }
-{
-    // On plain ground all distances are 0, and a weight is the product of its primary ones, whatever their signs.
-    if (l.tr == 0.0)
-        & (l.r == 0.0)
-        & (c.t == 0.0)
-        & (c.r == 0.0)
-        & (r.tl == 0.0)
-        & (b.tl == 0.0)
-        & (b.t == 0.0)
-        & (b.tr == 0.0)
-    {
-        return Weights {
-            w0: l.r * c.t,
-            w1: c.r * c.t,
-            w2: c.r * b.t,
-            w3: l.r * b.t,
-        };
-    }
-    Weights {
-        w0: corner_weight(l.tr, Pair(l.r, c.t), Pair(tl.r, l.t)),
-        w1: corner_weight(r.tl, Pair(c.r, c.t), Pair(t.r, r.t)),
-        w2: corner_weight(b.tr, Pair(c.r, b.t), Pair(b.r, br.t)),
-        w3: corner_weight(b.tl, Pair(l.r, b.t), Pair(bl.r, bl.t)),
-    }
 }

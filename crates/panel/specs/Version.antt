@@ -7,7 +7,7 @@ major = 0
 
 -- raised where a call is added, or answers otherwise
 abbrev pub minor : ℕ
-minor = 5
+minor = 6
 
 -- raised where neither is so
 abbrev pub patch : ℕ

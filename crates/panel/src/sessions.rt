@@ -1,5 +1,9 @@
-// The calls of a session. The header is an array of six numbers: w, h, and left, top, width and height of the lock. A paint of a list is
-// one of three: column, row and word.
+// The calls of a session. The header is an array of eight numbers: w, h, left, top, width and height of the lock, and kind and pattern of
+// the setting of clarity. A paint of a list is one of three: column, row and word.
+use clarity::bits_of;
+use clarity::clarity_of;
+use clarity::kind_of;
+use clarity::setting_of;
 use header::Header;
 use header::Rectangle;
 use paints::Paint;
@@ -9,17 +13,20 @@ use session::Session;
 ghost use mathlib.Core.Path.{_≡_};
 ghost use mathlib.Core.List.{map};
 ghost use Prim.Native.Nat.{_≤_};
+ghost use lib.Dec.{T};
 ghost use lib.ListN.{length};
+ghost use Rattle.clarity.specs.Clarity.{lawfulOf, settingOf};
 ghost use Rattle.paints.specs.Paints.{gathered};
 ghost use Rattle.machine.specs.Calls.{Opens, Paints, PaintLists, Refreshes, Shows, Locks};
 ghost use Rattle.three.specs.Three.{screen3};
-ghost use Rattle.panel.specs.Header.{headerOf};
+ghost use Rattle.panel.specs.Header.{headerOf, numbersOf};
 ghost use Rattle.panel.specs.Item.{paintOf};
 
 // The session that a header's numbers stand for.
-fn session_of(numbers: &[u32; 6]) -> Session
+fn session_of(numbers: &[u32; 8]) -> Session
     ensures { λ r. ⌜ r .header ≡ headerOf (now (numbers .entry)) ⌝ }
 {
+    let clarity = clarity_of(numbers[6], numbers[7]);
     Session {
         header: Header {
             w: numbers[0],
@@ -30,16 +37,19 @@ fn session_of(numbers: &[u32; 6]) -> Session
                 width: numbers[4],
                 height: numbers[5],
             },
+            clarity,
         },
     }
 }
 
-// The numbers of a session's header.
-fn numbers_of(session: Session) -> [u32; 6]
-    ensures { λ r. ⌜ headerOf r ≡ session .header ⌝ }
+// The numbers of a session's header, which stand for it again.
+fn numbers_of(session: Session) -> [u32; 8]
+    requires { ⌜ T (lawfulOf (session .header .clarity)) ⌝ }
+    ensures { λ r. ⌜ (r ≡ numbersOf (session .header)) × (headerOf r ≡ session .header) ⌝ }
 {
     let header = session.header;
     let lock = header.lock;
+    let clarity = header.clarity;
     [
         header.w,
         header.h,
@@ -47,30 +57,35 @@ fn numbers_of(session: Session) -> [u32; 6]
         lock.top,
         lock.width,
         lock.height,
+        kind_of(clarity),
+        bits_of(clarity),
     ]
 }
 
-// A session opened on a picture; its header and its stale count.
+// A session opened on a picture, at the setting that a kind and a single stand for; its header and its stale count.
 #[no_mangle]
 pub extern "C" fn panel_open(
     w: u32,
     h: u32,
+    clarity: u32,
+    threshold: f32,
     picture: &[u32],
     output: &mut [u32],
     marks: &mut [u8],
-    header: &mut [u32; 6],
+    header: &mut [u32; 8],
     stale: &mut u32,
 ) -> u32
-    ensures { λ r. ⌜ Opens screen3 w h (now (picture .entry)) (now (output .entry)) (now (marks .entry))
+    ensures { λ r. ⌜ Opens screen3 w h (settingOf clarity threshold) (now (picture .entry)) (now (output .entry)) (now (marks .entry))
         (record {
           output = now (output .exit);
           marks = now (marks .exit);
           refusal = r;
           header = headerOf (now (header .exit));
           stale = now (stale .exit);
-        }) ⌝ }
+        }) × (now (header .exit) ≡ numbersOf (headerOf (now (header .exit)))) ⌝ }
 {
-    let opened = Session::open(w, h, picture, output, marks);
+    let setting = setting_of(clarity, threshold);
+    let opened = Session::open(w, h, setting, picture, output, marks);
     *header = numbers_of(opened.session);
     *stale = opened.stale;
     opened.refusal
@@ -79,7 +94,7 @@ pub extern "C" fn panel_open(
 // One word of the picture painted.
 #[no_mangle]
 pub extern "C" fn panel_paint(
-    header: &[u32; 6],
+    header: &[u32; 8],
     picture: &mut [u32],
     marks: &mut [u8],
     column: u32,
@@ -127,7 +142,7 @@ fn paints_of(items: &[[u32; 3]], m: usize) -> [Paint; 64]
 // The paints of a list, all or none.
 #[no_mangle]
 pub extern "C" fn panel_paint_list(
-    header: &[u32; 6],
+    header: &[u32; 8],
     picture: &mut [u32],
     marks: &mut [u8],
     items: &[[u32; 3]],
@@ -153,7 +168,7 @@ pub extern "C" fn panel_paint_list(
 // The first n stale blocks drawn.
 #[no_mangle]
 pub extern "C" fn panel_refresh(
-    header: &[u32; 6],
+    header: &[u32; 8],
     picture: &[u32],
     output: &mut [u32],
     marks: &mut [u8],
@@ -181,7 +196,7 @@ pub extern "C" fn panel_refresh(
 // The nine words of a block.
 #[no_mangle]
 pub extern "C" fn panel_show(
-    header: &[u32; 6],
+    header: &[u32; 8],
     output: &[u32],
     marks: &[u8],
     bx: u32,
@@ -202,15 +217,16 @@ pub extern "C" fn panel_show(
 // The header with another rectangle locked.
 #[no_mangle]
 pub extern "C" fn panel_lock(
-    header: &[u32; 6],
+    header: &[u32; 8],
     left: u32,
     top: u32,
     width: u32,
     height: u32,
-    locked: &mut [u32; 6],
+    locked: &mut [u32; 8],
 ) -> u32
     ensures { λ r. ⌜ Locks screen3 (headerOf (now (header .entry))) (record { left = left; top = top; width = width; height = height })
-        (record { refusal = r; header = headerOf (now (locked .exit)) }) ⌝ }
+        (record { refusal = r; header = headerOf (now (locked .exit)) })
+        × (now (locked .exit) ≡ numbersOf (headerOf (now (locked .exit)))) ⌝ }
 {
     let session = session_of(header);
     let answer = session.lock(Rectangle {

@@ -55,5 +55,9 @@ locked = 11
 abbrev pub items : ℕ
 items = 12
 
+-- a threshold of clarity that is not above 0, is above 1 or is not a number
+abbrev pub clarity : ℕ
+clarity = 13
+
 abbrev pub all : List ℕ
-all = none ∷ side ∷ picture ∷ output ∷ scratch ∷ outside ∷ operand ∷ stale ∷ trailer ∷ long ∷ lock ∷ locked ∷ items ∷ []
+all = none ∷ side ∷ picture ∷ output ∷ scratch ∷ outside ∷ operand ∷ stale ∷ trailer ∷ long ∷ lock ∷ locked ∷ items ∷ clarity ∷ []

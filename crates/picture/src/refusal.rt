@@ -28,9 +28,11 @@ pub const LOCK: u32 = 10;
 pub const LOCKED: u32 = 11;
 // A list of more than 64 paints.
 pub const ITEMS: u32 = 12;
+// A threshold of clarity that is not above 0, is above 1 or is not a number.
+pub const CLARITY: u32 = 13;
 
 // The names here and in the definitions are the same numbers.
-pub fn numbers() -> [u32; 13]
+pub fn numbers() -> [u32; 14]
     ensures { λ r. ⌜ r ≡ all ⌝ }
 {
     [
@@ -47,5 +49,6 @@ pub fn numbers() -> [u32; 13]
         LOCK,
         LOCKED,
         ITEMS,
+        CLARITY,
     ]
 }

@@ -1,4 +1,5 @@
 // What page3x prints of a page file, written into a lent buffer.
+use clarity::Clarity;
 use page::read_page;
 use picture::refusal;
 use text::put_picture;
@@ -22,7 +23,15 @@ fn put_enlarged(w: u32, h: u32, picture: &[u32], text: &mut [u8]) -> usize
     let mut output = [0u32; 9216];
     let mut singles = [0.0f32; 8192];
     let mut bytes = [0u8; 8192];
-    whole::scale(w, h, picture, &mut output, &mut singles, &mut bytes);
+    whole::scale(
+        w,
+        h,
+        Clarity::Standard,
+        picture,
+        &mut output,
+        &mut singles,
+        &mut bytes,
+    );
     let n = 9 * ((w as usize) * (h as usize));
     put_picture(3 * w, 3 * h, &output[..n], text)
 }

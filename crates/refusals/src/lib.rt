@@ -2,6 +2,7 @@
 // how many words a block has; header is the one that the call is lent, or is to answer; p, o and m are the lengths of the picture, the
 // output and the marks. No screen has a longer side than 2,048, nor a block of more than 81 words, as many as nine-times makes of a pixel:
 // so no product wraps.
+use clarity::lawful;
 use header::Header;
 use header::Rectangle;
 use header::locked;
@@ -13,8 +14,8 @@ ghost use mathlib.Core.Path.{_≡_};
 ghost use Prim.Native.Nat.{_*_, _≤_};
 ghost use lib.ListN.{length, take};
 ghost use Rattle.picture.specs.Refusal.{none};
-ghost use Rattle.machine.specs.Calls.{sideLong, refusalHeader, refusalAll, refusalLent, refusalWord, refusalPaint, refusalList};
-ghost use Rattle.machine.specs.Calls.{refusalShow, refusalLock};
+ghost use Rattle.machine.specs.Calls.{sideLong, refusalHeader, refusalClarity, refusalAll, refusalLent};
+ghost use Rattle.machine.specs.Calls.{refusalWord, refusalPaint, refusalList, refusalShow, refusalLock};
 ghost use Rattle.machine.specs.Items.{refusalItems};
 
 // A side past its limit.
@@ -35,6 +36,17 @@ fn refuse_header(side: u32, header: Header) -> u32
         return refusal::LOCK;
     }
     refusal::NONE
+}
+
+// Of every call, by its header's setting.
+fn refuse_clarity(header: Header) -> u32
+    ensures { λ r. ⌜ r ≡ refusalClarity header none ⌝ }
+{
+    let clarity = header.clarity;
+    if lawful(clarity) {
+        return refusal::NONE;
+    }
+    refusal::CLARITY
 }
 
 // Of a call that is lent all three buffers.
@@ -58,10 +70,10 @@ pub fn refuse_all(side: u32, words: usize, header: Header, p: usize, o: usize, m
     if m < n {
         return refusal::SCRATCH;
     }
-    refusal::NONE
+    refuse_clarity(header)
 }
 
-// Of a call that is lent picture and marks, and no output, by the header and their lengths.
+// Of a call that is lent picture and marks, and no output, by the header, their lengths and the setting.
 fn refuse_lent(side: u32, header: Header, p: usize, m: usize) -> u32
     requires { ⌜ side ≤ 2048 ⌝ }
     ensures { λ r. ⌜ r ≡ refusalLent side header p m none ⌝ }
@@ -79,7 +91,7 @@ fn refuse_lent(side: u32, header: Header, p: usize, m: usize) -> u32
     if m < n {
         return refusal::SCRATCH;
     }
-    refusal::NONE
+    refuse_clarity(header)
 }
 
 // Of one word at (column, row). A word that is there already is not refused, be it locked or not.
@@ -185,6 +197,10 @@ pub fn refuse_show(
     if marks.len() < n {
         return refusal::SCRATCH;
     }
+    let setting = refuse_clarity(header);
+    if setting != 0 {
+        return setting;
+    }
     if (bx < w) & (by < h) {
         if marks[(by as usize) * (w as usize) + (bx as usize)] != 0 {
             return refusal::STALE;
@@ -205,5 +221,5 @@ pub fn refuse_lock(side: u32, header: Header, lock: Rectangle) -> u32
     if past(header.w, header.h, lock) {
         return refusal::LOCK;
     }
-    refusal::NONE
+    refuse_clarity(header)
 }

@@ -4,6 +4,7 @@
 // `proofs/Theorem.antt` here proves it of this session.
 use crate::store::store_items;
 use crate::store::store_word;
+use clarity::Clarity;
 use draw::draw_first;
 use header::Header;
 use header::Rectangle;
@@ -91,8 +92,15 @@ impl Session {
     pub const SIDE: u32 = 2048;
 
     // A session on the picture: the output's words are made 0, every block stale, and nothing is locked.
-    pub fn open(w: u32, h: u32, picture: &[u32], output: &mut [u32], marks: &mut [u8]) -> Opened
-        ensures { λ r. ⌜ Opens screen3 w h (now (picture .entry)) (now (output .entry)) (now (marks .entry))
+    pub fn open(
+        w: u32,
+        h: u32,
+        clarity: Clarity,
+        picture: &[u32],
+        output: &mut [u32],
+        marks: &mut [u8],
+    ) -> Opened
+        ensures { λ r. ⌜ Opens screen3 w h clarity (now (picture .entry)) (now (output .entry)) (now (marks .entry))
             (record {
               output = now (output .exit);
               marks = now (marks .exit);
@@ -101,7 +109,7 @@ impl Session {
               stale = r .stale;
             }) ⌝ }
     {
-        let header = fresh(w, h);
+        let header = fresh(w, h, clarity);
         let refusal = refuse_all(
             Session::SIDE,
             WORDS,
@@ -244,7 +252,8 @@ impl Session {
                 left: 0,
             };
         }
-        let stale = draw_first(picture, output, marks, header.w, header.h, n);
+        let clarity = header.clarity;
+        let stale = draw_first(picture, output, marks, header.w, header.h, clarity, n);
         let drawn = least(stale, n);
         Refreshed {
             refusal: 0,

@@ -16,6 +16,7 @@ use Rattle.page.specs.declared.PageRead.{PageRead}
 use Rattle.picture.specs.Fill.{put, flat, length-flat}
 use Rattle.picture.specs.Picture.{words}
 use Rattle.picture.specs.Refusal.{none, side, picture, trailer, long}
+use Rattle.clarity.specs.declared.Clarity.the-variants.{Standard}
 use Rattle.whole.specs.Calls.{Scales}
 use Rattle.whole.specs.Laws.{scale-length}
 use Rattle.whole.specs.Whole.{scaleOf}
@@ -69,7 +70,7 @@ enlarged-rows (suc w) h a b =
 pub enlarged-most : (w h : ℕ) (ps : List ℕ) → h ≤ 2048 → w * h ≤ 1024 → length (enlargedText w h ps) ≤ 82954
 unfolding pictureText
 enlarged-most w h ps a b =
-    let out = scaleOf w h (words w ps) in
+    let out = scaleOf Standard w h (words w ps) in
     omega (
       arith,
       length-append (sidesText (3 * w) (3 * h)) (rows (3 * w) (3 * h) out),
@@ -85,9 +86,9 @@ enlarged-most w h ps a b =
 pub refused-most : (n : ℕ) → length (refusedText n) ≤ 82954
 refused-most n = omega (arith, length-refused n, length-decimal n, places-small n)
 
--- what `scale` leaves at the front of an output that is long enough, with buffers that are
+-- what `scale` leaves by the standard setting at the front of an output that is long enough, with buffers that are
 pub scaled : (w h : ℕ) (p o o′ b b′ : List ℕ) (s s′ : List Float) (r : ℕ) → w ≤ 2048 → h ≤ 2048 → w * h ≤ length p → 9 * (w * h) ≤ length o
-    → 8 * (w * h) ≤ length s → 8 * (w * h) ≤ length b → Scales w h p o s b o′ s′ b′ r → take (9 * (w * h)) o′ ≡ scaleOf w h (words w p)
+    → 8 * (w * h) ≤ length s → 8 * (w * h) ≤ length b → Scales Standard w h p o s b o′ s′ b′ r → take (9 * (w * h)) o′ ≡ scaleOf Standard w h (words w p)
 scaled w h p o o′ b b′ s s′ r hw hh hp ho hs hb g =
     let n = w * h in
     let none-now : r ≡ none =
@@ -100,8 +101,8 @@ scaled w h p o o′ b b′ s s′ r hw hh hp ho hs hb g =
       le-ltb (length s) (8 * n) hs,
       le-ltb (length b) (8 * n) hb,
     ) in
-    let out : o′ ≡ put 0 (scaleOf w h (words w p)) o = g .output-now ∙ rw none-now in
-    ap (take (9 * n)) out ∙ front (9 * n) (scaleOf w h (words w p)) o (scale-length w h (words w p))
+    let out : o′ ≡ put 0 (scaleOf Standard w h (words w p)) o = g .output-now ∙ rw none-now in
+    ap (take (9 * n)) out ∙ front (9 * n) (scaleOf Standard w h (words w p)) o (scale-length Standard w h (words w p))
 
 -- 3h rows of 3w words
 pub nine : (w h : ℕ) → 3 * h * (3 * w) ≡ 9 * (w * h)

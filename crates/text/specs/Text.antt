@@ -9,6 +9,7 @@ use Rattle.page.specs.Page.{width, height, pixels, broken, wide}
 use Rattle.picture.specs.Fill.{put, flat}
 use Rattle.picture.specs.Picture.{words}
 use Rattle.picture.specs.Refusal.{none, side, trailer, long}
+use Rattle.clarity.specs.declared.Clarity.the-variants.{Standard}
 use Rattle.whole.specs.Whole.{scaleOf}
 
 -- a digit's character: 0 to 9, then a to f
@@ -56,9 +57,9 @@ sidesText w h = line (decimal w ++ (0x20 ∷ decimal h))
 unfoldable pub pictureText : ℕ → ℕ → List ℕ → List ℕ
 pictureText w h ps = sidesText w h ++ rows w h ps
 
--- the text of a picture that is enlarged three times
+-- the text of a picture that is enlarged three times, at the standard setting of clarity
 abbrev pub enlargedText : ℕ → ℕ → List ℕ → List ℕ
-enlargedText w h ps = pictureText (3 * w) (3 * h) (scaleOf w h (words w ps))
+enlargedText w h ps = pictureText (3 * w) (3 * h) (scaleOf Standard w h (words w ps))
 
 -- `refused`, a space and the number
 abbrev pub refused : List ℕ

@@ -1,5 +1,5 @@
 -- The three-times screen is lawful, by the locality of section 6, and draws from no word past the picture. Assumes nothing.
-use mathlib.Core.Path.{_≡_, sym, ap, ap₂, _∙_}
+use mathlib.Core.Path.{_≡_, refl, sym, ap, ap₂, _∙_}
 use mathlib.Core.Bool.{Bool, true, _&&_, _||_, or-true}
 use mathlib.Core.List.{List}
 use Prim.Native.Nat.{ℕ, _+_, _-_, _*_, _≤_, _<_}
@@ -9,7 +9,11 @@ use lib.Seq.{getD-take}
 use borrow.Author.Tests.{le-leb}
 use Rattle.picture.specs.Picture.{words}
 use Rattle.picture.specs.Local.{In}
+use Rattle.clarity.specs.declared.Clarity.{Clarity}
+use Rattle.clarity.specs.declared.Clarity.the-variants.{Standard, Threshold, Gated}
+use Rattle.clarity.specs.Clarity.{plainly}
 use Rattle.block.specs.Locality.{cross, block-length}
+use Rattle.block.specs.Standard.{block-standard}
 use Rattle.machine.specs.Screen.{Lawful}
 use Rattle.marks.specs.Marks.{between}
 use Rattle.three.specs.Three.{cross3, draw3, screen3}
@@ -33,18 +37,29 @@ high w h x y bx by i =
     let t : Bool = between (x - 6) (x + 6) bx && between (y - 2) (y + 3) by in
     ap (λ (u : Bool). t || u) (arm w h 3 5 6 x y bx by i) ∙ or-true t
 
+-- each setting draws as the one that it counts as, and so do two that count as equal
+as-plainly : (q : Clarity) (w h : ℕ) (p : List ℕ) (bx by : ℕ) → draw3 q w h p bx by ≡ draw3 (plainly q) w h p bx by
+as-plainly Standard w h p bx by = block-standard w h (words w p) bx by
+as-plainly (Threshold t) w h p bx by = refl
+as-plainly (Gated t) w h p bx by = refl
+
+same-drawn : (c d : Clarity) → plainly c ≡ plainly d → (w h : ℕ) (p : List ℕ) (bx by : ℕ) → draw3 c w h p bx by ≡ draw3 d w h p bx by
+same-drawn c d e w h p bx by =
+    as-plainly c w h p bx by ∙ ap (λ (q : Clarity). draw3 q w h p bx by) e ∙ sym (as-plainly d w h p bx by)
+
 pub lawful3 : Lawful screen3
 lawful3 = record {
   scaled = omega arith;
-  draw-length = λ w h p bx by. block-length w h (words w p) bx by;
-  local = λ w h p q bx by lp lq hx hy agree.
-      cross w h (words w p) (words w q) bx by hx hy (λ x y i. agree x y (i .on-x) (i .on-y) (wide w h x y bx by i))
+  draw-length = λ c w h p bx by. block-length c w h (words w p) bx by;
+  local = λ c w h p q bx by lp lq hx hy agree.
+      cross c w h (words w p) (words w q) bx by hx hy (λ x y i. agree x y (i .on-x) (i .on-y) (wide w h x y bx by i))
       (λ x y i. agree x y (i .on-x) (i .on-y) (high w h x y bx by i));
+  settings = same-drawn;
 }
 
-pub drawn-from : (w h : ℕ) (p : List ℕ) (bx by : ℕ) → bx < w → by < h → draw3 w h p bx by ≡ draw3 w h (take (w * h) p) bx by
-drawn-from w h p bx by hx hy =
-    cross w h (words w p) (words w (take (w * h) p)) bx by hx hy (λ x y i. front x y (i .on-x) (i .on-y)) (λ x y i. front x y (i .on-x) (i .on-y))
+pub drawn-from : (q : Clarity) (w h : ℕ) (p : List ℕ) (bx by : ℕ) → bx < w → by < h → draw3 q w h p bx by ≡ draw3 q w h (take (w * h) p) bx by
+drawn-from q w h p bx by hx hy =
+    cross q w h (words w p) (words w (take (w * h) p)) bx by hx hy (λ x y i. front x y (i .on-x) (i .on-y)) (λ x y i. front x y (i .on-x) (i .on-y))
   where
     front : (x y : ℕ) → x < w → y < h → words w p x y ≡ words w (take (w * h) p) x y
     front x y l m = sym (getD-take (w * h) p (y * w + x) 0 (block-lt l m))

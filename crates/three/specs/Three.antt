@@ -4,6 +4,7 @@ use mathlib.Core.Bool.{Bool, _&&_, _||_}
 use mathlib.Core.List.{List}
 use Prim.Native.Nat.{ℕ, _+_, _-_}
 use Rattle.picture.specs.Picture.{words}
+use Rattle.clarity.specs.declared.Clarity.{Clarity}
 use Rattle.block.specs.Block.{blockOf}
 use Rattle.machine.specs.Screen.{Screen}
 use Rattle.marks.specs.Marks.{between}
@@ -15,9 +16,9 @@ cross3 column row bx by =
     (between (column - 6) (column + 6) bx && between (row - 2) (row + 3) by)
     || (between (column - 3) (column + 3) bx && between (row - 5) (row + 6) by)
 
--- the block of 9 words, drawn from the picture's words
-abbrev pub draw3 : ℕ → ℕ → List ℕ → ℕ → ℕ → List ℕ
-draw3 w h picture bx by = blockOf w h (words w picture) bx by
+-- the block of 9 words, drawn from the picture's words at a setting
+abbrev pub draw3 : Clarity → ℕ → ℕ → List ℕ → ℕ → ℕ → List ℕ
+draw3 clarity w h picture bx by = blockOf clarity w h (words w picture) bx by
 
 abbrev pub screen3 : Screen
 screen3 = record { scale = 3; side = 2048; touches = cross3; draw = draw3 }

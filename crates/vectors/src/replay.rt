@@ -1,7 +1,8 @@
-// One picture of the recording through the whole-picture calls, compared in every bit.
+// One picture of the recording through the whole-picture calls at the standard setting, compared in every bit.
 use crate::recorded;
 use crate::recorded::Head;
 use crate::tally::Tally;
+use clarity::Clarity;
 
 // The pattern of a single; for what is not a number, the pattern that stands for all such.
 fn pattern(x: f32) -> u32 {
@@ -83,7 +84,7 @@ pub fn three_times(
     singles: &mut [f32],
     bytes: &mut [u8],
 ) -> Tally {
-    let refusal = whole::scale(p.w, p.h, picture, output, singles, bytes);
+    let refusal = whole::scale(p.w, p.h, Clarity::Standard, picture, output, singles, bytes);
     stages(t.picture(p.full, refusal), p.n, output, singles, bytes)
 }
 
@@ -100,6 +101,15 @@ pub fn nine_times(
     if p.full {
         return t;
     }
-    let refusal = whole::scale9x(p.w, p.h, picture, output, middle, singles, bytes);
+    let refusal = whole::scale9x(
+        p.w,
+        p.h,
+        Clarity::Standard,
+        picture,
+        output,
+        middle,
+        singles,
+        bytes,
+    );
     words_of(t.called(refusal), output, 81 * (p.n as usize))
 }

@@ -10,6 +10,8 @@ use borrow.Author.Tests.{ltb-false, le-ltb, eqb-true}
 use lib.ListN.{length, take, drop, length-drop}
 use lib.Seq.{take-all}
 use Rattle.picture.specs.Fill.{put}
+use Rattle.clarity.specs.declared.Clarity.{Clarity}
+use Rattle.clarity.specs.Clarity.{lawfulOf}
 use Rattle.whole.specs.Calls.{Asked, Lengths, refusalOf, filled}
 use Rattle.whole.specs.Passes.{wordsWithin}
 
@@ -56,19 +58,19 @@ pub record Accepted (asked : Asked) (lent : Lengths) : Type 0 where
   pub singles-fit : asked .scratch ≤ lent .singles
   pub bytes-fit : asked .scratch ≤ lent .bytes
 
-pub accepted : (asked : Asked) (lent : Lengths) → refusalOf asked lent ≡ 0 → Accepted asked lent
-accepted asked lent e =
+pub accepted : (q : Clarity) (asked : Asked) (lent : Lengths) → refusalOf q asked lent ≡ 0 → Accepted asked lent
+accepted q asked lent e =
     go (ltb (asked .limit) (asked .w) || ltb (asked .limit) (asked .h)) (ltb (lent .picture) (asked .picture)) (ltb (lent .output) (asked .output))
-    (ltb (lent .middle) (asked .middle)) (ltb (lent .singles) (asked .scratch)) (ltb (lent .bytes) (asked .scratch)) refl refl refl refl refl refl e
+    (ltb (lent .middle) (asked .middle)) (ltb (lent .singles) (asked .scratch)) (ltb (lent .bytes) (asked .scratch)) (lawfulOf q) refl refl refl refl refl refl e
   where
     number : (k : ℕ) → suc k ≡ 0 → ⊥
     number k z = omega arith
 
-    go : (t1 t2 t3 t4 t5 t6 : Bool) → (ltb (asked .limit) (asked .w) || ltb (asked .limit) (asked .h)) ≡ t1
+    go : (t1 t2 t3 t4 t5 t6 t7 : Bool) → (ltb (asked .limit) (asked .w) || ltb (asked .limit) (asked .h)) ≡ t1
         → ltb (lent .picture) (asked .picture) ≡ t2 → ltb (lent .output) (asked .output) ≡ t3 → ltb (lent .middle) (asked .middle) ≡ t4
         → ltb (lent .singles) (asked .scratch) ≡ t5 → ltb (lent .bytes) (asked .scratch) ≡ t6
-        → cond {A = ℕ} t1 1 (cond t2 2 (cond t3 3 (cond (t4 || t5 || t6) 4 0))) ≡ 0 → Accepted asked lent
-    go false false false false false false q1 q2 q3 q4 q5 q6 z =
+        → cond {A = ℕ} t1 1 (cond t2 2 (cond t3 3 (cond (t4 || t5 || t6) 4 (cond t7 0 13)))) ≡ 0 → Accepted asked lent
+    go false false false false false false true q1 q2 q3 q4 q5 q6 z =
         let sd = sides (asked .limit) (asked .w) (asked .h) q1 in
         record {
           wide = sd .0;
@@ -79,26 +81,27 @@ accepted asked lent e =
           singles-fit = ltb-false (lent .singles) (asked .scratch) q5;
           bytes-fit = ltb-false (lent .bytes) (asked .scratch) q6;
         }
-    go true t2 t3 t4 t5 t6 q1 q2 q3 q4 q5 q6 z = absurd (number 0 z)
-    go false true t3 t4 t5 t6 q1 q2 q3 q4 q5 q6 z = absurd (number 1 z)
-    go false false true t4 t5 t6 q1 q2 q3 q4 q5 q6 z = absurd (number 2 z)
-    go false false false true t5 t6 q1 q2 q3 q4 q5 q6 z = absurd (number 3 z)
-    go false false false false true t6 q1 q2 q3 q4 q5 q6 z = absurd (number 3 z)
-    go false false false false false true q1 q2 q3 q4 q5 q6 z = absurd (number 3 z)
+    go true t2 t3 t4 t5 t6 t7 q1 q2 q3 q4 q5 q6 z = absurd (number 0 z)
+    go false true t3 t4 t5 t6 t7 q1 q2 q3 q4 q5 q6 z = absurd (number 1 z)
+    go false false true t4 t5 t6 t7 q1 q2 q3 q4 q5 q6 z = absurd (number 2 z)
+    go false false false true t5 t6 t7 q1 q2 q3 q4 q5 q6 z = absurd (number 3 z)
+    go false false false false true t6 t7 q1 q2 q3 q4 q5 q6 z = absurd (number 3 z)
+    go false false false false false true t7 q1 q2 q3 q4 q5 q6 z = absurd (number 3 z)
+    go false false false false false false false q1 q2 q3 q4 q5 q6 z = absurd (number 12 z)
 
 -- past the limit no length is looked at, so the number is that of the true product
-module _ (side w h : ℕ) (o m s : ℕ → ℕ) (lent : Lengths) where
+module _ (q : Clarity) (side w h : ℕ) (o m s : ℕ → ℕ) (lent : Lengths) where
   abbrev asking : ℕ → Asked
   asking n = record { limit = side; w = w; h = h; picture = n; output = o n; middle = m n; scratch = s n }
 
-  pub refusal-within : refusalOf (asking (wordsWithin side w h)) lent ≡ refusalOf (asking (w * h)) lent
+  pub refusal-within : refusalOf q (asking (wordsWithin side w h)) lent ≡ refusalOf q (asking (w * h)) lent
   refusal-within = go (ltb side w || ltb side h)
     where
       -- the conditions after the first, of n words
       rest : ℕ → ℕ
       rest n =
           cond (ltb (lent .picture) n) 2
-          (cond (ltb (lent .output) (o n)) 3 (cond (ltb (lent .middle) (m n) || ltb (lent .singles) (s n) || ltb (lent .bytes) (s n)) 4 0))
+          (cond (ltb (lent .output) (o n)) 3 (cond (ltb (lent .middle) (m n) || ltb (lent .singles) (s n) || ltb (lent .bytes) (s n)) 4 (cond (lawfulOf q) 0 13)))
 
       go : (t : Bool) → cond {A = ℕ} t 1 (rest (cond t 0 (w * h))) ≡ cond {A = ℕ} t 1 (rest (w * h))
       go true = refl

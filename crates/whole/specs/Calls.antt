@@ -1,4 +1,4 @@
--- What `scale` and `scale9x` answer and leave, for every input. Definitions only.
+-- What `scale` and `scale9x` answer and leave, for every input and every setting of clarity. Definitions only.
 use mathlib.Core.Path.{_≡_}
 use mathlib.Core.Bool.{cond, _||_}
 use mathlib.Core.List.{List}
@@ -9,6 +9,8 @@ use lib.ListN.{length}
 use Rattle.picture.specs.Picture.{words}
 use Rattle.picture.specs.Fill.{put}
 use Rattle.picture.specs.Refusal as Refusal
+use Rattle.clarity.specs.declared.Clarity.{Clarity}
+use Rattle.clarity.specs.Clarity.{lawfulOf}
 use Rattle.whole.specs.Whole.{scaleOf, singlesOf, bytesOf}
 
 -- what a call asks for: sides within a limit, and so many words of the picture, the output and the middle, and elements of both singles
@@ -31,13 +33,13 @@ pub record Lengths : Type 0 where
   pub bytes : ℕ
 
 -- the number of the refusal, the first condition that holds
-abbrev pub refusalOf : Asked → Lengths → ℕ
-refusalOf asked lent =
+abbrev pub refusalOf : Clarity → Asked → Lengths → ℕ
+refusalOf q asked lent =
     cond (ltb (asked .limit) (asked .w) || ltb (asked .limit) (asked .h)) Refusal.side
     (cond (ltb (lent .picture) (asked .picture)) Refusal.picture
     (cond (ltb (lent .output) (asked .output)) Refusal.output
     (cond (ltb (lent .middle) (asked .middle) || ltb (lent .singles) (asked .scratch) || ltb (lent .bytes) (asked .scratch)) Refusal.scratch
-    Refusal.none)))
+    (cond (lawfulOf q) Refusal.none Refusal.clarity))))
 
 -- three-times of a picture of w by h and n words: the output has nine words for each, and no middle is lent. A word takes eight singles,
 -- a metric of four and weights of four, and eight bytes, junctions of four and tags of four
@@ -53,8 +55,8 @@ lent3 picture output singles bytes = record {
   bytes = length bytes;
 }
 
-abbrev pub refusal3 : ℕ → ℕ → List ℕ → List ℕ → List Float → List ℕ → ℕ
-refusal3 w h picture output singles bytes = refusalOf (asked3 w h (w * h)) (lent3 picture output singles bytes)
+abbrev pub refusal3 : Clarity → ℕ → ℕ → List ℕ → List ℕ → List Float → List ℕ → ℕ
+refusal3 q w h picture output singles bytes = refusalOf q (asked3 w h (w * h)) (lent3 picture output singles bytes)
 
 -- nine-times: the middle is a whole three-times output, whose sides, 3 * 682 at most, are within three-times' limit, and whose own passes
 -- take the singles and bytes
@@ -70,24 +72,26 @@ lent9 picture output middle singles bytes = record {
   bytes = length bytes;
 }
 
-abbrev pub refusal9 : ℕ → ℕ → List ℕ → List ℕ → List ℕ → List Float → List ℕ → ℕ
-refusal9 w h picture output middle singles bytes = refusalOf (asked9 w h (w * h)) (lent9 picture output middle singles bytes)
+abbrev pub refusal9 : Clarity → ℕ → ℕ → List ℕ → List ℕ → List ℕ → List Float → List ℕ → ℕ
+refusal9 q w h picture output middle singles bytes = refusalOf q (asked9 w h (w * h)) (lent9 picture output middle singles bytes)
 
 -- a buffer with vs at its front, unless the call was refused
 abbrev pub filled : {E : Type 0} → ℕ → List E → List E → List E
 filled refusal vs buffer = cond (eqb refusal Refusal.none) (put 0 vs buffer) buffer
 
 -- picture, output, singles, bytes at entry; output, singles, bytes at exit; the answer r
-pub record Scales (w h : ℕ) (p o : List ℕ) (s : List Float) (b o′ : List ℕ) (s′ : List Float) (b′ : List ℕ) (r : ℕ) : Type 0 where
-  pub refusal-now : r ≡ refusal3 w h p o s b
-  pub output-now : o′ ≡ filled r (scaleOf w h (words w p)) o
-  pub singles-now : s′ ≡ filled r (singlesOf w h (words w p)) s
-  pub bytes-now : b′ ≡ filled r (bytesOf w h (words w p)) b
+pub record Scales (q : Clarity) (w h : ℕ) (p o : List ℕ) (s : List Float) (b : List ℕ)
+    (o′ : List ℕ) (s′ : List Float) (b′ : List ℕ) (r : ℕ) : Type 0 where
+  pub refusal-now : r ≡ refusal3 q w h p o s b
+  pub output-now : o′ ≡ filled r (scaleOf q w h (words w p)) o
+  pub singles-now : s′ ≡ filled r (singlesOf q w h (words w p)) s
+  pub bytes-now : b′ ≡ filled r (bytesOf q w h (words w p)) b
 
--- the same with the middle m: the second pass runs on the whole first result
-pub record Scales9 (w h : ℕ) (p o m : List ℕ) (s : List Float) (b o′ m′ : List ℕ) (s′ : List Float) (b′ : List ℕ) (r : ℕ) : Type 0 where
-  pub refusal-now : r ≡ refusal9 w h p o m s b
-  pub middle-now : m′ ≡ filled r (scaleOf w h (words w p)) m
-  pub output-now : o′ ≡ filled r (scaleOf (3 * w) (3 * h) (words (3 * w) (scaleOf w h (words w p)))) o
-  pub singles-now : s′ ≡ filled r (singlesOf (3 * w) (3 * h) (words (3 * w) (scaleOf w h (words w p)))) s
-  pub bytes-now : b′ ≡ filled r (bytesOf (3 * w) (3 * h) (words (3 * w) (scaleOf w h (words w p)))) b
+-- the same with the middle m: the second pass runs on the whole first result, at the same setting
+pub record Scales9 (q : Clarity) (w h : ℕ) (p o m : List ℕ) (s : List Float) (b : List ℕ)
+    (o′ m′ : List ℕ) (s′ : List Float) (b′ : List ℕ) (r : ℕ) : Type 0 where
+  pub refusal-now : r ≡ refusal9 q w h p o m s b
+  pub middle-now : m′ ≡ filled r (scaleOf q w h (words w p)) m
+  pub output-now : o′ ≡ filled r (scaleOf q (3 * w) (3 * h) (words (3 * w) (scaleOf q w h (words w p)))) o
+  pub singles-now : s′ ≡ filled r (singlesOf q (3 * w) (3 * h) (words (3 * w) (scaleOf q w h (words w p)))) s
+  pub bytes-now : b′ ≡ filled r (bytesOf q (3 * w) (3 * h) (words (3 * w) (scaleOf q w h (words w p)))) b

@@ -7,11 +7,14 @@ use native.Mathlib.Omega.{arith}
 use lib.ListN.{length, getD, length-append}
 use Rattle.picture.specs.Fill.{flat, put, put-put, put-nil, length-put, length-flat, getD-flat, getD-flat-below, within}
 use Rattle.grid.specs.Grid.{ofMetric, ofWeights, ofJunctions, ofTags}
+use Rattle.clarity.specs.declared.Clarity.{Clarity}
+use Rattle.clarity.specs.declared.Clarity.the-variants.{Standard, Threshold}
+use Rattle.single.specs.Single.{f½}
 use Rattle.metric.specs.Metric.{metrics}
-use Rattle.metric.specs.Weight.{weights}
+use Rattle.weight.specs.Weight.{cornerWeightOf, weightsOf, weights}
 use Rattle.block.specs.Block.{pictureJunctions, pictureTags, blockOf}
-use Rattle.block.specs.Store.{third, putRow, putRect}
-use Rattle.block.specs.Strips.{strip, strip-length, row-strips}
+use Rattle.stored.specs.Store.{third, putRow, putRect}
+use Rattle.stored.specs.Strips.{strip, strip-length, row-strips}
 use Rattle.whole.specs.Whole.{allOf, rowsOf, scaleOf, singlesOf, bytesOf}
 
 -- ---- blocks stored one after the other, where the strips are as long as an output row, are three rows of it
@@ -79,49 +82,63 @@ third-word r (suc (suc (suc c))) b h = absurd (omega arith)
 places : (by r w : ℕ) → (3 * by + r) * (3 * w) ≡ by * (9 * w) + r * (w * 3)
 places by r w = simp (add-mul, mul-assoc, mul-left-comm, mul-comm) (omega arith)
 
-module _ (w h : ℕ) (f : ℕ → ℕ → ℕ) where
-  pub scale-length : length (scaleOf w h f) ≡ 9 * (w * h)
+module _ (q : Clarity) (w h : ℕ) (f : ℕ → ℕ → ℕ) where
+  pub scale-length : length (scaleOf q w h f) ≡ 9 * (w * h)
   unfolding scaleOf
   scale-length =
-      length-flat (9 * w) (λ y. rowsOf w (λ x. blockOf w h f x y)) (λ y. rows-length w (λ x. blockOf w h f x y)) h
+      length-flat (9 * w) (λ y. rowsOf w (λ x. blockOf q w h f x y)) (λ y. rows-length w (λ x. blockOf q w h f x y)) h
       ∙ omega (arith, mul-comm h (9 * w), mul-assoc 9 w h)
 
-  pub singles-length : length (singlesOf w h f) ≡ 8 * (w * h)
+  pub singles-length : length (singlesOf q w h f) ≡ 8 * (w * h)
   unfolding singlesOf
   singles-length =
       let a = all-length ofMetric (λ r. refl) w h (metrics w h f) in
-      let v = all-length ofWeights (λ r. refl) w h (weights w h (metrics w h f)) in
-      length-append (allOf ofMetric w h (metrics w h f)) (allOf ofWeights w h (weights w h (metrics w h f)))
+      let v = all-length ofWeights (λ r. refl) w h (weights q w h (metrics w h f)) in
+      length-append (allOf ofMetric w h (metrics w h f)) (allOf ofWeights w h (weights q w h (metrics w h f)))
       ∙ omega (arith, mul-assoc h w 4, mul-comm h w)
 
-  pub bytes-length : length (bytesOf w h f) ≡ 8 * (w * h)
+  pub bytes-length : length (bytesOf q w h f) ≡ 8 * (w * h)
   unfolding bytesOf
   bytes-length =
-      let a = all-length ofJunctions (λ r. refl) w h (pictureJunctions w h f) in
-      let v = all-length ofTags (λ r. refl) w h (pictureTags w h f) in
-      length-append (allOf ofJunctions w h (pictureJunctions w h f)) (allOf ofTags w h (pictureTags w h f))
+      let a = all-length ofJunctions (λ r. refl) w h (pictureJunctions q w h f) in
+      let v = all-length ofTags (λ r. refl) w h (pictureTags q w h f) in
+      length-append (allOf ofJunctions w h (pictureJunctions q w h f)) (allOf ofTags w h (pictureTags q w h f))
       ∙ omega (arith, mul-assoc h w 4, mul-comm h w)
 
   -- the three rows of a row of blocks, one after the other
   in-rows : (bx by r c : ℕ) → bx < w → r < 3 → c < 3
-      → getD (rowsOf w (λ x. blockOf w h f x by)) (r * (w * 3) + (bx * 3 + c)) 0 ≡ getD (third r (blockOf w h f bx by)) c 0
+      → getD (rowsOf w (λ x. blockOf q w h f x by)) (r * (w * 3) + (bx * 3 + c)) 0 ≡ getD (third r (blockOf q w h f bx by)) c 0
   unfolding rowsOf
   in-rows bx by r c hx hr hc =
-      getD-flat-below (w * 3) (λ q. flat w (λ x. third q (blockOf w h f x by))) 3
-      (λ q k. length-flat 3 (λ x. third q (blockOf w h f x by)) (λ x. refl) w) r
+      getD-flat-below (w * 3) (λ s. flat w (λ x. third s (blockOf q w h f x by))) 3
+      (λ s k. length-flat 3 (λ x. third s (blockOf q w h f x by)) (λ x. refl) w) r
       (bx * 3 + c) 0 hr (within bx w c 3 hx hc)
-      ∙ getD-flat 3 (λ x. third r (blockOf w h f x by)) (λ x. refl) w bx c 0 hx hc
+      ∙ getD-flat 3 (λ x. third r (blockOf q w h f x by)) (λ x. refl) w bx c 0 hx hc
 
   -- word c of row r of block (bx, by) stands in output row 3 by + r, column 3 bx + c: the output's block is section 6's block
   pub scale-block : (bx by r c : ℕ) → bx < w → by < h → r < 3 → c < 3
-      → getD (scaleOf w h f) ((3 * by + r) * (3 * w) + (3 * bx + c)) 0 ≡ getD (blockOf w h f bx by) (3 * r + c) 0
+      → getD (scaleOf q w h f) ((3 * by + r) * (3 * w) + (3 * bx + c)) 0 ≡ getD (blockOf q w h f bx by) (3 * r + c) 0
   unfolding scaleOf
   scale-block bx by r c hx hy hr hc =
       let place : (3 * by + r) * (3 * w) + (3 * bx + c) ≡ by * (9 * w) + (r * (w * 3) + (bx * 3 + c)) =
       omega (arith, places by r w) in
       let inner : r * (w * 3) + (bx * 3 + c) < 9 * w = omega (arith, within r 3 (bx * 3 + c) (w * 3) hr (within bx w c 3 hx hc)) in
-      ap (λ (i : ℕ). getD (scaleOf w h f) i 0) place
-      ∙ getD-flat (9 * w) (λ y. rowsOf w (λ x. blockOf w h f x y)) (λ y. rows-length w (λ x. blockOf w h f x y)) h by
+      ap (λ (i : ℕ). getD (scaleOf q w h f) i 0) place
+      ∙ getD-flat (9 * w) (λ y. rowsOf w (λ x. blockOf q w h f x y)) (λ y. rows-length w (λ x. blockOf q w h f x y)) h by
       (r * (w * 3) + (bx * 3 + c)) 0 hy inner
       ∙ in-rows bx by r c hx hr hc
-      ∙ third-word r c (blockOf w h f bx by) hc
+      ∙ third-word r c (blockOf q w h f bx by) hc
+
+-- ---- the standard is the threshold 0.5, as settings of the weight and so of the whole picture
+module _ (w h : ℕ) (f : ℕ → ℕ → ℕ) where
+  pub scale-standard : scaleOf Standard w h f ≡ scaleOf (Threshold f½) w h f
+  unfolding scaleOf blockOf pictureTags pictureJunctions weights weightsOf cornerWeightOf
+  scale-standard = refl
+
+  pub singles-standard : singlesOf Standard w h f ≡ singlesOf (Threshold f½) w h f
+  unfolding singlesOf weights weightsOf cornerWeightOf
+  singles-standard = refl
+
+  pub bytes-standard : bytesOf Standard w h f ≡ bytesOf (Threshold f½) w h f
+  unfolding bytesOf pictureTags pictureJunctions weights weightsOf cornerWeightOf
+  bytes-standard = refl

@@ -11,15 +11,16 @@ use lib.ListN.{length, drop}
 use Rattle.picture.specs.Picture.{words}
 use Rattle.picture.specs.Local.{In}
 use Rattle.picture.specs.Fill.{flat-same, put, put-put, length-put}
+use Rattle.clarity.specs.declared.Clarity.{Clarity}
 use Rattle.metric.specs.Metric.{metrics}
-use Rattle.metric.specs.Weight.{weights}
+use Rattle.weight.specs.Weight.{weights}
 use Rattle.grid.specs.declared.Grid.{Grid}
 use Rattle.grid.specs.Grid.{ofMetric, ofWeights, ofJunctions, ofTags, tagsField, tagsAt, rowOf, rectOf}
 use Rattle.grid.specs.Kept.{Holds, Spans, holds-drop, rect-length, tags-kept}
 use Rattle.block.specs.Block.{pictureJunctions, pictureTags, blockFrom, blockOf}
 use Rattle.block.specs.Window.{Passed}
-use Rattle.block.specs.Store.{putRect}
-use Rattle.block.specs.StoreLaws.{rect-same}
+use Rattle.stored.specs.Store.{putRect}
+use Rattle.stored.specs.StoreLaws.{rect-same}
 use Rattle.whole.specs.Whole.{allOf, scaleOf, singlesOf, bytesOf}
 use Rattle.whole.specs.Laws.{rect-filled}
 
@@ -36,10 +37,10 @@ pub record Fits (w h p o s b : ℕ) : Type 0 where
   pub singles : 8 * (w * h) ≤ s
   pub bytes : 8 * (w * h) ≤ b
 
-pub record Enlarged (w h : ℕ) (p o : List ℕ) (s : List Float) (b o′ : List ℕ) (s′ : List Float) (b′ : List ℕ) : Type 0 where
-  pub output-is : o′ ≡ put 0 (scaleOf w h (words w p)) o
-  pub singles-are : s′ ≡ put 0 (singlesOf w h (words w p)) s
-  pub bytes-are : b′ ≡ put 0 (bytesOf w h (words w p)) b
+pub record Enlarged (q : Clarity) (w h : ℕ) (p o : List ℕ) (s : List Float) (b o′ : List ℕ) (s′ : List Float) (b′ : List ℕ) : Type 0 where
+  pub output-is : o′ ≡ put 0 (scaleOf q w h (words w p)) o
+  pub singles-are : s′ ≡ put 0 (singlesOf q w h (words w p)) s
+  pub bytes-are : b′ ≡ put 0 (bytesOf q w h (words w p)) b
 
 -- the picture as one rectangle, and that row by row
 abbrev gridOf : ℕ → ℕ → Grid
@@ -67,24 +68,25 @@ joined w h {R} {R′} {E} none elements elements′ f f′ four four′ l l′ r
     ∙ ap (λ (r : List E). put 0 r l) (ap₂ {C = List E} _++_ (rect-all w h elements f) (rect-all w h elements′ f′))
 
 -- the passes over all pixels, and then the blocks by the tags from the cut on
-module _ (w h : ℕ) (p o o′ : List ℕ) (s s′ : List Float) (b b′ : List ℕ) (fits : Fits w h (length p) (length o) (length s) (length b))
-    (k : Passed w h (words w p) (gridOf w h) (gridOf w h) (gridOf w h) (gridOf w h) (h * (w * 4)) (h * (w * 4)) s s′ b b′) where
+module _ (q : Clarity) (w h : ℕ) (p o o′ : List ℕ) (s s′ : List Float) (b b′ : List ℕ)
+    (fits : Fits w h (length p) (length o) (length s) (length b))
+    (k : Passed q w h (words w p) (gridOf w h) (gridOf w h) (gridOf w h) (gridOf w h) (h * (w * 4)) (h * (w * 4)) s s′ b b′) where
   abbrev f : ℕ → ℕ → ℕ
   f = words w p
 
   abbrev held-tags : List ℕ
   held-tags = drop (h * (w * 4)) b′
 
-  long : length (put 0 (rectOf ofJunctions (gridOf w h) (pictureJunctions w h f)) b) ≡ length b
-  long = length-put 0 (rectOf ofJunctions (gridOf w h) (pictureJunctions w h f)) b
-      (omega (arith, fits .bytes, rect-length 0 ofJunctions (λ r. refl) (gridOf w h) (pictureJunctions w h f)))
+  long : length (put 0 (rectOf ofJunctions (gridOf w h) (pictureJunctions q w h f)) b) ≡ length b
+  long = length-put 0 (rectOf ofJunctions (gridOf w h) (pictureJunctions q w h f)) b
+      (omega (arith, fits .bytes, rect-length 0 ofJunctions (λ r. refl) (gridOf w h) (pictureJunctions q w h f)))
 
-  held : Holds 0 ofTags (λ r. refl) (gridOf w h) (pictureTags w h f) held-tags
+  held : Holds 0 ofTags (λ r. refl) (gridOf w h) (pictureTags q w h f) held-tags
   held = rw (k .bytes-are)
-      (holds-drop 0 ofTags (λ r. refl) (gridOf w h) (pictureTags w h f) (h * (w * 4)) _ (omega (arith, fits .bytes, long)))
+      (holds-drop 0 ofTags (λ r. refl) (gridOf w h) (pictureTags q w h f) (h * (w * 4)) _ (omega (arith, fits .bytes, long)))
 
   -- the tags of a row, counted from the row's start, are the picture's
-  row-tags : (x y : ℕ) → x < w → y < h → tagsAt held-tags (y * (w * 4) + x * 4) ≡ pictureTags w h f x y
+  row-tags : (x y : ℕ) → x < w → y < h → tagsAt held-tags (y * (w * 4) + x * 4) ≡ pictureTags q w h f x y
   unfolding tagsField
   row-tags x y hx hy =
       let z : y - 0 ≡ y = omega arith in
@@ -93,17 +95,17 @@ module _ (w h : ℕ) (p o o′ : List ℕ) (s s′ : List Float) (b b′ : List 
       record { on-x = hx; on-y = hy; left = omega arith; right = omega arith; above = omega arith; below = omega arith } in
       let s : Spans (gridOf w h) w h x y 0 0 0 0 =
       record { left = omega arith; right = omega arith; above = omega arith; below = omega arith } in
-      ap (tagsAt held-tags) i ∙ tags-kept (gridOf w h) w h x y 0 0 0 0 s (pictureTags w h f) held-tags held x y o
+      ap (tagsAt held-tags) i ∙ tags-kept (gridOf w h) w h x y 0 0 0 0 s (pictureTags q w h f) held-tags held x y o
 
   pub enlarged : o′ ≡ putRect (3 * w) 0 w h (λ i j. blockFrom w h f (0 + i) (0 + j) (tagsAt held-tags (j * (w * 4) + i * 4))) o
-      → Enlarged w h p o s b o′ s′ b′
+      → Enlarged q w h p o s b o′ s′ b′
   unfolding scaleOf singlesOf bytesOf blockOf
   enlarged e = record {
     output-is = e
         ∙ rect-same (3 * w) 0 w h _ _ o (λ x y hx hy. rw (zero-add x, zero-add y, row-tags x y hx hy))
-        ∙ rect-filled w h (blockOf w h f) o (omega (arith, fits .output));
-    singles-are = joined w h nan ofMetric ofWeights (metrics w h f) (weights w h (metrics w h f)) (λ r. refl) (λ r. refl) s s′
+        ∙ rect-filled w h (blockOf q w h f) o (omega (arith, fits .output));
+    singles-are = joined w h nan ofMetric ofWeights (metrics w h f) (weights q w h (metrics w h f)) (λ r. refl) (λ r. refl) s s′
         (fits .singles) (k .singles-are);
-    bytes-are = joined w h 0 ofJunctions ofTags (pictureJunctions w h f) (pictureTags w h f) (λ r. refl) (λ r. refl) b b′
+    bytes-are = joined w h 0 ofJunctions ofTags (pictureJunctions q w h f) (pictureTags q w h f) (λ r. refl) (λ r. refl) b b′
         (fits .bytes) (k .bytes-are);
   }

@@ -1,13 +1,14 @@
--- Section 8: a whole picture enlarged, and the records of its passes, in row order. Definitions only.
+-- Section 8: a whole picture enlarged at a setting of clarity, and the records of its passes, in row order. Definitions only.
 use mathlib.Core.List.{List, _++_}
 use Prim.Native.Nat.{ℕ}
 use lib.Ieee.{Float}
 use Rattle.picture.specs.Fill.{flat}
+use Rattle.clarity.specs.declared.Clarity.{Clarity}
 use Rattle.metric.specs.Metric.{metrics}
-use Rattle.metric.specs.Weight.{weights}
+use Rattle.weight.specs.Weight.{weights}
 use Rattle.grid.specs.Grid.{ofMetric, ofWeights, ofJunctions, ofTags}
 use Rattle.block.specs.Block.{pictureJunctions, pictureTags, blockOf}
-use Rattle.block.specs.Store.{third}
+use Rattle.stored.specs.Store.{third}
 
 -- the records of all pixels, row by row
 unfoldable pub allOf : {R E : Type 0} → (R → List E) → ℕ → ℕ → (ℕ → ℕ → R) → List E
@@ -17,15 +18,15 @@ allOf elements w h f = flat h (λ y. flat w (λ x. elements (f x y)))
 unfoldable pub rowsOf : ℕ → (ℕ → List ℕ) → List ℕ
 rowsOf w blocks = flat 3 (λ r. flat w (λ x. third r (blocks x)))
 
-module _ (w h : ℕ) (f : ℕ → ℕ → ℕ) where
+module _ (q : Clarity) (w h : ℕ) (f : ℕ → ℕ → ℕ) where
   -- the output of three-times: 3h rows of 3w words
   unfoldable pub scaleOf : List ℕ
-  scaleOf = flat h (λ y. rowsOf w (λ x. blockOf w h f x y))
+  scaleOf = flat h (λ y. rowsOf w (λ x. blockOf q w h f x y))
 
   -- all metrics, then all weights
   unfoldable pub singlesOf : List Float
-  singlesOf = allOf ofMetric w h (metrics w h f) ++ allOf ofWeights w h (weights w h (metrics w h f))
+  singlesOf = allOf ofMetric w h (metrics w h f) ++ allOf ofWeights w h (weights q w h (metrics w h f))
 
   -- all n, then all t
   unfoldable pub bytesOf : List ℕ
-  bytesOf = allOf ofJunctions w h (pictureJunctions w h f) ++ allOf ofTags w h (pictureTags w h f)
+  bytesOf = allOf ofJunctions w h (pictureJunctions q w h f) ++ allOf ofTags w h (pictureTags q w h f)

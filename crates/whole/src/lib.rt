@@ -1,7 +1,9 @@
 // Whole pictures: three-times and nine-times, into buffers that the caller lends.
 use block::passes;
-use block::store::put_rect;
+use clarity::Clarity;
+use clarity::lawful;
 use grid::Grid;
+use stored::put_rect;
 ghost use mathlib.Core.Path.{_≡_};
 ghost use Prim.Native.Nat.{_≤_};
 ghost use lib.ListN.{length};
@@ -14,8 +16,9 @@ pub const SIDE3: u32 = 2048;
 pub const SIDE9: u32 = 682;
 
 // The number that turns a call away, or 0: side is the limit, n, o, m and s the elements that picture, output, middle and both of
-// singles and bytes have to have.
+// singles and bytes have to have. What is lent is looked at before the setting.
 fn refusal(
+    clarity: Clarity,
     side: u32,
     w: u32,
     h: u32,
@@ -29,7 +32,7 @@ fn refusal(
     singles: usize,
     bytes: usize,
 ) -> u32
-    ensures { λ r. ⌜ r ≡ refusalOf
+    ensures { λ r. ⌜ r ≡ refusalOf clarity
         (record { limit = side; w = w; h = h; picture = n; output = o; middle = m; scratch = s })
         (record { picture = picture; output = output; middle = middle; singles = singles; bytes = bytes }) ⌝ }
 {
@@ -44,6 +47,9 @@ fn refusal(
     }
     if (middle < m) | (singles < s) | (bytes < s) {
         return picture::refusal::SCRATCH;
+    }
+    if !lawful(clarity) {
+        return picture::refusal::CLARITY;
     }
     picture::refusal::NONE
 }
@@ -63,13 +69,14 @@ fn words_of(side: u32, w: u32, h: u32) -> usize
 fn enlarge(
     w: u32,
     h: u32,
+    clarity: Clarity,
     picture: &[u32],
     output: &mut [u32],
     singles: &mut [f32],
     bytes: &mut [u8],
 )
     requires { ⌜ Fits w h (length (now picture)) (length (now output)) (length (now singles)) (length (now bytes)) ⌝ }
-    ensures { λ _. ⌜ Enlarged w h (now (picture .entry)) (now (output .entry)) (now (singles .entry)) (now (bytes .entry))
+    ensures { λ _. ⌜ Enlarged clarity w h (now (picture .entry)) (now (output .entry)) (now (singles .entry)) (now (bytes .entry))
         (now (output .exit)) (now (singles .exit)) (now (bytes .exit)) ⌝ }
 {
     let g = Grid {
@@ -79,7 +86,7 @@ fn enlarge(
         rows: h,
     };
     let cut = (h as usize) * ((w as usize) * 4);
-    passes(picture, w, h, g, g, g, g, singles, cut, bytes, cut);
+    passes(picture, w, h, clarity, g, g, g, g, singles, cut, bytes, cut);
     let tags = &bytes[cut..];
     put_rect(picture, w, h, 0, 0, w, h, tags, output, 3 * (w as usize), 0);
 }
@@ -88,16 +95,18 @@ fn enlarge(
 pub fn scale(
     w: u32,
     h: u32,
+    clarity: Clarity,
     picture: &[u32],
     output: &mut [u32],
     singles: &mut [f32],
     bytes: &mut [u8],
 ) -> u32
-    ensures { λ r. ⌜ Scales w h (now (picture .entry)) (now (output .entry)) (now (singles .entry)) (now (bytes .entry))
+    ensures { λ r. ⌜ Scales clarity w h (now (picture .entry)) (now (output .entry)) (now (singles .entry)) (now (bytes .entry))
         (now (output .exit)) (now (singles .exit)) (now (bytes .exit)) r ⌝ }
 {
     let n = words_of(SIDE3, w, h);
     let f = refusal(
+        clarity,
         SIDE3,
         w,
         h,
@@ -114,32 +123,35 @@ pub fn scale(
     if f != 0 {
         return f;
     }
-    enlarge(w, h, picture, output, singles, bytes);
+    enlarge(w, h, clarity, picture, output, singles, bytes);
     f
 }
 
-// ScaleFX nine-times: three-times into the middle, and three-times again from there.
+// ScaleFX nine-times: three-times into the middle, and three-times again from there, both at the given clarity.
 pub fn scale9x(
     w: u32,
     h: u32,
+    clarity: Clarity,
     picture: &[u32],
     output: &mut [u32],
     middle: &mut [u32],
     singles: &mut [f32],
     bytes: &mut [u8],
 ) -> u32
-    ensures { λ r. ⌜ Scales9 w h (now (picture .entry)) (now (output .entry)) (now (middle .entry)) (now (singles .entry))
+    ensures { λ r. ⌜ Scales9 clarity w h (now (picture .entry)) (now (output .entry)) (now (middle .entry)) (now (singles .entry))
         (now (bytes .entry))
         (now (output .exit)) (now (middle .exit)) (now (singles .exit)) (now (bytes .exit)) r ⌝ }
 {
     let n = words_of(SIDE9, w, h);
+    let m = 9 * n;
     let f = refusal(
+        clarity,
         SIDE9,
         w,
         h,
         n,
         81 * n,
-        9 * n,
+        m,
         72 * n,
         picture.len(),
         output.len(),
@@ -150,7 +162,7 @@ pub fn scale9x(
     if f != 0 {
         return f;
     }
-    enlarge(w, h, picture, middle, singles, bytes);
-    enlarge(3 * w, 3 * h, &middle[..9 * n], output, singles, bytes);
+    enlarge(w, h, clarity, picture, middle, singles, bytes);
+    enlarge(3 * w, 3 * h, clarity, &middle[..m], output, singles, bytes);
     f
 }

@@ -26,7 +26,7 @@ same-length-2 c = search needs
 returns : tie.Need-returns
 returns c =
     let a = c .before .before .before .before .before .before .before .before .before .before .before .before .before .before .before .before .before .before .before .before .args in
-    passed (a .w) (a .h) (words (a .w) (a .picture .now)) (a .g) (a .v) (a .q) (a .t) (a .cut) (a .from) _ (a .singles .now) _ _ (a .bytes .now) _ _
+    passed (a .clarity) (a .w) (a .h) (words (a .w) (a .picture .now)) (a .g) (a .v) (a .q) (a .t) (a .cut) (a .from) _ (a .singles .now) _ _ (a .bytes .now) _ _
     (c .before .before .before .before .before .before .before .before .before .before .before .before .before .before .before .before .before .before .before .before .pre)
     (c .before .before .before .before .before .before .before .before .before .before .before .before .before .before .before .metrics-rect .ensures)
     (c .before .before .before .before .before .before .before .before .before .before .before .weights-rect .ensures)

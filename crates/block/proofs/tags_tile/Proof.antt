@@ -39,7 +39,7 @@ returns : tie.Need-returns
 returns c =
     let a = c .before .before .before .before .before .before .before .before .before .before .before .args in
     let p = c .before .before .before .before .before .before .before .before .before .before .before .pre in
-    tile-tagged (p .0) (words (a .w) (a .picture .now)) (a .bytes .now) _ (p .1 .1)
+    tile-tagged (p .0) (a .clarity) (words (a .w) (a .picture .now)) (a .bytes .now) _ (p .1 .1)
     (rw (c .before .before .before .before .before .before .ring3 .ensures) at (c .before .before .before .passes .ensures .bytes-are))
 
 pub tags-tile-spec : {M : Type 1} → statement M

@@ -20,11 +20,11 @@ use Rattle.draw.proofs.draw_first.Statement.{statement}
 use Rattle.draw.proofs.draw_first.Tie as tie
 
 abbrev Inv-loop : tie.InvT-loop
-Inv-loop picture output₀ marks₀ w h n width stale₀ y₀ output marks stale y =
-    (y ≤ h) × Draws screen3 w h 0 (y * w) n picture output₀ marks₀ output marks stale
+Inv-loop picture output₀ marks₀ w h q n width stale₀ y₀ output marks stale y =
+    (y ≤ h) × Draws screen3 w h q 0 (y * w) n picture output₀ marks₀ output marks stale
 
 abbrev μ-loop : tie.MeasureT-loop
-μ-loop picture output₀ marks₀ w h n width stale₀ y₀ output marks stale y = h - y
+μ-loop picture output₀ marks₀ w h q n width stale₀ y₀ output marks stale y = h - y
 
 -- the rows before y, and the marks and words as they are
 record Rows (w h y m : ℕ) : Type 0 where
@@ -42,7 +42,7 @@ rows-of c =
     let l = c .loop in
     record {
       within = omega (arith, mul-le-mul-right (a .w) (l .inv .0));
-      marked = omega (arith, s .pre .for-marks, draws-marks-length screen3 (a .w) (a .h) (a .picture .now) (l .inv .1 .draws));
+      marked = omega (arith, s .pre .for-marks, draws-marks-length screen3 (a .w) (a .h) (a .clarity) (a .picture .now) (l .inv .1 .draws));
       few = area (a .w) (a .h) (s .pre .wide) (s .pre .high);
     }
 
@@ -50,8 +50,8 @@ loop-holds : tie.Need-loop-holds Inv-loop μ-loop
 loop-holds c =
     let a = c .before .before .before .args in (
       omega arith,
-      subst (λ (i : ℕ). Draws screen3 (a .w) (a .h) 0 i (a .n) (a .picture .now) (a .output .now) (a .marks .now) (a .output .now) (a .marks .now) 0)
-          (sym (zero-mul (a .w))) (first-none screen3 (a .w) (a .h) (a .picture .now) (a .output .now) (a .marks .now)
+      subst (λ (i : ℕ). Draws screen3 (a .w) (a .h) (a .clarity) 0 i (a .n) (a .picture .now) (a .output .now) (a .marks .now) (a .output .now) (a .marks .now) 0)
+          (sym (zero-mul (a .w))) (first-none screen3 (a .w) (a .h) (a .clarity) (a .picture .now) (a .output .now) (a .marks .now)
           (sym (count-none 0 (a .marks .now))) (none-left 0 0 (a .n) (a .marks .now) refl)),
     )
 
@@ -90,8 +90,8 @@ loop-again c =
     let zero : 0 ≡ c .before .count-stale .result = omega (arith, c .if2 .taken) in
     let none = zero ∙ c .before .count-stale .ensures ∙ ap (λ (j : ℕ). count (staleIn lo j (l .marks))) (sym e) in (
       omega arith,
-      first-more screen3 (a .w) (a .h) (a .picture .now) (omega (arith, e)) (omega (arith, e, row, s .pre .for-marks)) (omega arith) (l .inv .1)
-          (first-none screen3 (a .w) (a .h) (a .picture .now) (l .output) (l .marks) none (none-stale lo ((l .y + 1) * a .w) (a .n - l .stale) (l .marks) (sym none))),
+      first-more screen3 (a .w) (a .h) (a .clarity) (a .picture .now) (omega (arith, e)) (omega (arith, e, row, s .pre .for-marks)) (omega arith) (l .inv .1)
+          (first-none screen3 (a .w) (a .h) (a .clarity) (a .picture .now) (l .output) (l .marks) none (none-stale lo ((l .y + 1) * a .w) (a .n - l .stale) (l .marks) (sym none))),
     )
 
 add-least : tie.Need-add-least Inv-loop μ-loop
@@ -112,7 +112,7 @@ draw-band-requires c κs =
     let d = l .inv .1 .draws in (
       (omega (arith, e), (omega (arith, e), omega (arith, e))),
       lent-still (s .pre)
-          (draws-output-length screen3 (a .w) (a .h) (a .picture .now) d) (draws-marks-length screen3 (a .w) (a .h) (a .picture .now) d),
+          (draws-output-length screen3 (a .w) (a .h) (a .clarity) (a .picture .now) d) (draws-marks-length screen3 (a .w) (a .h) (a .clarity) (a .picture .now) d),
     )
 
 add-stale : tie.Need-add-stale Inv-loop μ-loop
@@ -128,8 +128,8 @@ add-stale c =
       arith,
       r,
       end,
-      first-few screen3 (a .w) (a .h) (a .picture .now) (omega (arith, r, s .pre .for-marks)) (l .inv .1),
-      first-few screen3 (a .w) (a .h) (a .picture .now) (omega (arith, r, end)) (c .before .before .before .before .draw-band .ensures),
+      first-few screen3 (a .w) (a .h) (a .clarity) (a .picture .now) (omega (arith, r, s .pre .for-marks)) (l .inv .1),
+      first-few screen3 (a .w) (a .h) (a .clarity) (a .picture .now) (omega (arith, r, end)) (c .before .before .before .before .draw-band .ensures),
     )
 
 loop-less-2 : tie.Need-loop-less-2 Inv-loop μ-loop
@@ -147,7 +147,7 @@ loop-again-2 c =
     let down : l .y ≤ c .before .before .before .before .before .before .before .least .result = omega (arith, e) in
     let low : c .before .before .before .before .before .before .before .least .result ≤ a .h = omega (arith, e) in (
       low,
-      first-more screen3 (a .w) (a .h) (a .picture .now) (mul-le-mul-right (a .w) down)
+      first-more screen3 (a .w) (a .h) (a .clarity) (a .picture .now) (mul-le-mul-right (a .w) down)
           (omega (arith, mul-le-mul-right (a .w) low, s .pre .for-marks)) refl (l .inv .1) (d .ensures),
     )
 
@@ -174,7 +174,7 @@ add-result c =
     omega (
       arith,
       r,
-      first-few screen3 (a .w) (a .h) (a .picture .now) (omega (arith, r, s .pre .for-marks)) (l .inv .1),
+      first-few screen3 (a .w) (a .h) (a .clarity) (a .picture .now) (omega (arith, r, s .pre .for-marks)) (l .inv .1),
       c .count-stale2 .ensures,
       count-run-le (l .y * a .w) (a .h * a .w) (l .marks) (omega (arith, r)),
     )
@@ -182,12 +182,12 @@ add-result c =
 same-length : tie.Need-same-length Inv-loop μ-loop
 same-length c =
     let a = c .before .before .before .before .before .before .before .args in
-    draws-output-length screen3 (a .w) (a .h) (a .picture .now) (c .before .before .before .loop .inv .1 .draws)
+    draws-output-length screen3 (a .w) (a .h) (a .clarity) (a .picture .now) (c .before .before .before .loop .inv .1 .draws)
 
 same-length-2 : tie.Need-same-length-2 Inv-loop μ-loop
 same-length-2 c =
     let a = c .before .before .before .before .before .before .before .args in
-    draws-marks-length screen3 (a .w) (a .h) (a .picture .now) (c .before .before .before .loop .inv .1 .draws)
+    draws-marks-length screen3 (a .w) (a .h) (a .clarity) (a .picture .now) (c .before .before .before .loop .inv .1 .draws)
 
 returns : tie.Need-returns Inv-loop μ-loop
 returns c =
@@ -201,10 +201,10 @@ returns c =
     (λ t. none-wanted (l .y * a .w) (a .h * a .w) (a .n) (l .stale) (l .marks) (omega (arith, ltb-false, t .1 .left)))
     (λ t. none-left (l .y * a .w) (a .h * a .w) (a .n - l .stale) (l .marks) (ap (λ (y : ℕ). y * a .w) (le-antisymm (l .inv .0) (t .left))))
     (c .before .before .loop-test .came) in
-    subst (λ (j : ℕ). Draws screen3 (a .w) (a .h) 0 j (a .n) (a .picture .now) (a .output .now) (a .marks .now) (l .output) (l .marks)
+    subst (λ (j : ℕ). Draws screen3 (a .w) (a .h) (a .clarity) 0 j (a .n) (a .picture .now) (a .output .now) (a .marks .now) (l .output) (l .marks)
     (l .stale + c .count-stale2 .result)) e
-    (first-more screen3 (a .w) (a .h) (a .picture .now) (omega (arith, r)) (omega (arith, s .pre .for-marks)) refl (l .inv .1)
-    (first-none screen3 (a .w) (a .h) (a .picture .now) (l .output) (l .marks) (c .count-stale2 .ensures) none))
+    (first-more screen3 (a .w) (a .h) (a .clarity) (a .picture .now) (omega (arith, r)) (omega (arith, s .pre .for-marks)) refl (l .inv .1)
+    (first-none screen3 (a .w) (a .h) (a .clarity) (a .picture .now) (l .output) (l .marks) (c .count-stale2 .ensures) none))
 
 pub draw-first-spec : {M : Type 1} → statement M
 draw-first-spec =

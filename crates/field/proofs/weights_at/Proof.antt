@@ -3,7 +3,7 @@ use borrow.Author.Needs.{needs}
 use native.Mathlib.Omega.{arith}
 use mathlib.Core.Path.{_∙_}
 use lib.IntN.{pos, negsuc}
-use Rattle.metric.specs.Weight.{weights}
+use Rattle.weight.specs.Weight.{weights}
 use Rattle.grid.specs.Grid.{metricField}
 use Rattle.grid.proofs.Reading.{held-at, near-at}
 use Rattle.field.proofs.Same.{weights-same}
@@ -69,7 +69,7 @@ returns c =
     let ys = c .before .before .before .before .before .before .before .before .before .three-at2 .ensures in
     let f0 = metricField (a .g) (a .s .now) in
     c .weights-of .ensures
-    ∙ weights-same
+    ∙ weights-same (a .clarity)
     (near-at f0 (a .w) (a .h) (a .x) (a .y) (negsuc 0) (negsuc 0) (xs .before-is) (ys .before-is) (c .before .before .before .before .before .before .before .before .metric-in .ensures))
     (near-at f0 (a .w) (a .h) (a .x) (a .y) (pos 0) (negsuc 0) (xs .at-is) (ys .before-is) (c .before .before .before .before .before .before .before .metric-in2 .ensures))
     (near-at f0 (a .w) (a .h) (a .x) (a .y) (negsuc 0) (pos 0) (xs .before-is) (ys .at-is) (c .before .before .before .before .before .before .metric-in3 .ensures))

@@ -8,7 +8,8 @@ use native.Mathlib.Nat.{zero-mul}
 use lib.Ieee.{Float, nan}
 use lib.ListN.{take}
 use Rattle.picture.specs.Fill.{Filled, fill-none, fill-more, fill-done, fill-take, chunk, add-one-mul}
-use Rattle.metric.specs.Weight.{weights}
+use Rattle.clarity.specs.declared.Clarity.{Clarity}
+use Rattle.weight.specs.Weight.{weights}
 use Rattle.grid.specs.declared.Grid.{Grid}
 use Rattle.grid.specs.Grid.{ofWeights, metricField, rowOf, rectOf}
 use Rattle.grid.specs.Room.{feeds-at}
@@ -17,15 +18,15 @@ use Rattle.field.proofs.weights_rect.Statement.{statement}
 use Rattle.field.proofs.weights_rect.Tie as tie
 
 -- each row of the rectangle, from what l holds
-abbrev lines : List Float → Grid → ℕ → ℕ → Grid → ℕ → ℕ → List Float
-lines l g w h v y0 j = rowOf ofWeights v (weights w h (metricField g l)) (y0 + j)
+abbrev lines : Clarity → List Float → Grid → ℕ → ℕ → Grid → ℕ → ℕ → List Float
+lines q l g w h v y0 j = rowOf ofWeights v (weights q w h (metricField g l)) (y0 + j)
 
 abbrev Inv-loop : tie.InvT-loop
-Inv-loop singles₀ cut g w h v cols rows y0 y₀ at₀ singles y at =
-    (y ≤ rows) × (at ≡ cut + y * (cols * 4)) × Filled cut (cols * 4) y (lines (take cut singles₀) g w h v y0) singles₀ singles
+Inv-loop clarity singles₀ cut g w h v cols rows y0 y₀ at₀ singles y at =
+    (y ≤ rows) × (at ≡ cut + y * (cols * 4)) × Filled cut (cols * 4) y (lines clarity (take cut singles₀) g w h v y0) singles₀ singles
 
 abbrev μ-loop : tie.MeasureT-loop
-μ-loop singles₀ cut g w h v cols rows y0 y₀ at₀ singles y at = rows - y
+μ-loop clarity singles₀ cut g w h v cols rows y0 y₀ at₀ singles y at = rows - y
 
 loop-holds : tie.Need-loop-holds Inv-loop μ-loop
 loop-holds c =
@@ -33,7 +34,7 @@ loop-holds c =
       omega arith,
       omega (arith, zero-mul (a .v .cols * 4)),
       fill-none (a .cut) (a .v .cols * 4)
-          (lines (take (a .cut) (a .singles .now)) (a .g) (a .w) (a .h) (a .v) (a .v .y0)) (a .singles .now) (omega arith),
+          (lines (a .clarity) (take (a .cut) (a .singles .now)) (a .g) (a .w) (a .h) (a .v) (a .v .y0)) (a .singles .now) (omega arith),
     )
 
 -- in a turn the row has room
@@ -74,15 +75,15 @@ loop-again c =
     let s = at-loop .loop in
     let a = at-loop .before .before .args in
     let k = a .v .cols * 4 in
-    let r = lines (take (a .cut) (a .singles .now)) (a .g) (a .w) (a .h) (a .v) (a .v .y0) in
+    let r = lines (a .clarity) (take (a .cut) (a .singles .now)) (a .g) (a .w) (a .h) (a .v) (a .v .y0) in
     let old = fill-take (a .cut) (a .cut) k (s .y) r (a .singles .now) (s .singles) (omega arith) (omega arith) (s .inv .2) in (
       omega arith,
       omega (arith, add-one-mul (s .y) k),
-      fill-more (a .cut) k (s .y) r (a .singles .now) (s .singles) (c .before .before .weights-row .last .0) (s .at)
-          (lines (take (a .cut) (s .singles)) (a .g) (a .w) (a .h) (a .v) (a .v .y0) (s .y))
-          (λ j. row-length nan ofWeights (λ r. refl) (a .v) (weights (a .w) (a .h) (metricField (a .g) (take (a .cut) (a .singles .now)))) (a .v .y0 + j))
+      fill-more (a .cut) k (s .y) r (a .singles .now) (s .singles) (c .before .before .weights-row .last .1 .0) (s .at)
+          (lines (a .clarity) (take (a .cut) (s .singles)) (a .g) (a .w) (a .h) (a .v) (a .v .y0) (s .y))
+          (λ j. row-length nan ofWeights (λ r. refl) (a .v) (weights (a .clarity) (a .w) (a .h) (metricField (a .g) (take (a .cut) (a .singles .now)))) (a .v .y0 + j))
           (omega (arith, room (c .before .before .before .before))) (s .inv .2) (s .inv .1)
-          (ap (λ (z : List Float). lines z (a .g) (a .w) (a .h) (a .v) (a .v .y0) (s .y)) old) (c .before .before .weights-row .ensures),
+          (ap (λ (z : List Float). lines (a .clarity) z (a .g) (a .w) (a .h) (a .v) (a .v .y0) (s .y)) old) (c .before .before .weights-row .ensures),
     )
 
 same-length : tie.Need-same-length Inv-loop μ-loop
@@ -93,7 +94,7 @@ unfolding rectOf
 returns c =
     let a = c .before .before .before .args in
     let s = c .before .loop in
-    fill-done (a .cut) (a .v .cols * 4) (s .y) (a .v .rows) (lines (take (a .cut) (a .singles .now)) (a .g) (a .w) (a .h) (a .v) (a .v .y0)) (a .singles .now)
+    fill-done (a .cut) (a .v .cols * 4) (s .y) (a .v .rows) (lines (a .clarity) (take (a .cut) (a .singles .now)) (a .g) (a .w) (a .h) (a .v) (a .v .y0)) (a .singles .now)
     (s .singles) (s .inv .2) (omega arith)
 
 pub weights-rect-spec : {M : Type 1} → statement M

@@ -8,7 +8,8 @@ use lib.Ieee.{Float}
 use lib.ListN.{take}
 use lib.Seq.{length-take-le}
 use Rattle.picture.specs.Fill.{Filled, fill-none, fill-more, fill-done, fill-take}
-use Rattle.metric.specs.Weight.{weights}
+use Rattle.clarity.specs.declared.Clarity.{Clarity}
+use Rattle.weight.specs.Weight.{weights}
 use Rattle.grid.specs.declared.Grid.{Grid}
 use Rattle.grid.specs.Grid.{ofWeights, metricField, rowOf}
 use Rattle.grid.specs.Room.{reads-at, held-take}
@@ -16,20 +17,20 @@ use Rattle.field.proofs.weights_row.Statement.{statement}
 use Rattle.field.proofs.weights_row.Tie as tie
 
 -- the record of each pixel of the row, from what l holds
-abbrev chunks : List Float → Grid → ℕ → ℕ → ℕ → ℕ → ℕ → List Float
-chunks l g w h x0 y i = ofWeights (weights w h (metricField g l) (x0 + i) y)
+abbrev chunks : Clarity → List Float → Grid → ℕ → ℕ → ℕ → ℕ → ℕ → List Float
+chunks q l g w h x0 y i = ofWeights (weights q w h (metricField g l) (x0 + i) y)
 
 abbrev Inv-loop : tie.InvT-loop
-Inv-loop singles₀ cut g w h y at cols x0 x₀ i₀ singles x i =
-    (x ≤ cols) × (i ≡ at + x * 4) × Filled at 4 x (chunks (take cut singles₀) g w h x0 y) singles₀ singles
+Inv-loop clarity singles₀ cut g w h y at cols x0 x₀ i₀ singles x i =
+    (x ≤ cols) × (i ≡ at + x * 4) × Filled at 4 x (chunks clarity (take cut singles₀) g w h x0 y) singles₀ singles
 
 abbrev μ-loop : tie.MeasureT-loop
-μ-loop singles₀ cut g w h y at cols x0 x₀ i₀ singles x i = cols - x
+μ-loop clarity singles₀ cut g w h y at cols x0 x₀ i₀ singles x i = cols - x
 
 loop-holds : tie.Need-loop-holds Inv-loop μ-loop
 loop-holds c =
     let a = c .before .args in
-    (omega arith, omega arith, fill-none (a .at) 4 (chunks (take (a .cut) (a .singles .now)) (a .g) (a .w) (a .h) (a .v .x0) (a .y)) (a .singles .now) (omega arith))
+    (omega arith, omega arith, fill-none (a .at) 4 (chunks (a .clarity) (take (a .cut) (a .singles .now)) (a .g) (a .w) (a .h) (a .v .x0) (a .y)) (a .singles .now) (omega arith))
 
 slice-reshare-prefix-weights-at : tie.Need-slice-reshare-prefix-weights-at Inv-loop μ-loop
 slice-reshare-prefix-weights-at c = omega arith
@@ -64,12 +65,12 @@ loop-again c =
     let at-loop = c .before .before .before .before .before .before .before in
     let s = at-loop .loop in
     let a = at-loop .before .before .args in
-    let r = chunks (take (a .cut) (a .singles .now)) (a .g) (a .w) (a .h) (a .v .x0) (a .y) in
+    let r = chunks (a .clarity) (take (a .cut) (a .singles .now)) (a .g) (a .w) (a .h) (a .v .x0) (a .y) in
     let old = fill-take (a .cut) (a .at) 4 (s .x) r (a .singles .now) (s .singles) (omega arith) (omega arith) (s .inv .2) in (
       omega arith,
       omega arith,
       fill-more (a .at) 4 (s .x) r (a .singles .now) (s .singles) (c .before .before .store-singles .last .0) (s .i) _ (λ j. refl) (omega arith) (s .inv .2) (s .inv .1)
-          (ap ofWeights (c .before .before .before .before .weights-at .ensures ∙ ap (λ (z : List Float). weights (a .w) (a .h) (metricField (a .g) z) (a .v .x0 + s .x) (a .y)) old))
+          (ap ofWeights (c .before .before .before .before .weights-at .ensures ∙ ap (λ (z : List Float). weights (a .clarity) (a .w) (a .h) (metricField (a .g) z) (a .v .x0 + s .x) (a .y)) old))
           (c .before .before .store-singles .ensures),
     )
 
@@ -81,7 +82,7 @@ unfolding rowOf
 returns c =
     let a = c .before .before .before .args in
     let s = c .before .loop in
-    fill-done (a .at) 4 (s .x) (a .v .cols) (chunks (take (a .cut) (a .singles .now)) (a .g) (a .w) (a .h) (a .v .x0) (a .y)) (a .singles .now) (s .singles) (s .inv .2) (omega arith)
+    fill-done (a .at) 4 (s .x) (a .v .cols) (chunks (a .clarity) (take (a .cut) (a .singles .now)) (a .g) (a .w) (a .h) (a .v .x0) (a .y)) (a .singles .now) (s .singles) (s .inv .2) (omega arith)
 
 pub weights-row-spec : {M : Type 1} → statement M
 weights-row-spec =

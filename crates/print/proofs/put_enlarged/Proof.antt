@@ -6,6 +6,7 @@ use native.Mathlib.Omega.{arith}
 use lib.ListN.{length, take}
 use borrow.Author.Needs.{needs}
 use Rattle.picture.specs.Picture.{words}
+use Rattle.clarity.specs.declared.Clarity.the-variants.{Standard}
 use Rattle.whole.specs.Laws.{scale-length}
 use Rattle.whole.specs.Whole.{scaleOf}
 use Rattle.text.specs.Text.{pictureText}
@@ -21,13 +22,13 @@ module _ (c : tie.After-scale) where
   all = 9 * (start .args .w * start .args .h)
 
   -- the front of the output is the enlarged page
-  enlarged : take all (c .scale .last .1 .1 .1 .0) ≡ scaleOf (start .args .w) (start .args .h) (words (start .args .w) (start .args .picture .now))
+  enlarged : take all (c .scale .last .1 .1 .1 .1 .0) ≡ scaleOf Standard (start .args .w) (start .args .h) (words (start .args .w) (start .args .picture .now))
   enlarged =
       let a = start .args in
       scaled (a .w) (a .h) (a .picture .now) _ _ _ _ _ _ _ (start .pre .0 .0) (start .pre .0 .1) (start .pre .0 .3) (omega arith) (omega arith) (omega arith) (c .scale .ensures)
 
-  long : length (take all (c .scale .last .1 .1 .1 .0)) ≡ all
-  long = ap length enlarged ∙ scale-length (start .args .w) (start .args .h) (words (start .args .w) (start .args .picture .now))
+  long : length (take all (c .scale .last .1 .1 .1 .1 .0)) ≡ all
+  long = ap length enlarged ∙ scale-length Standard (start .args .w) (start .args .h) (words (start .args .w) (start .args .picture .now))
 
 slice-aggregate-scale : tie.Need-slice-aggregate-scale
 slice-aggregate-scale c = search needs

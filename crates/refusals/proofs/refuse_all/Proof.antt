@@ -22,7 +22,7 @@ cast-n-2 : tie.Need-cast-n-2
 cast-n-2 c = search needs
 
 passed : (c : tie.Else1) → Taken (c .before .before .args .side) (c .before .before .args .header)
-passed c = header-taken _ _ (sym (c .before .refuse-header .ensures) ∙ c .if1 .left)
+passed c = header-taken (c .before .before .args .side) (c .before .before .args .header) (sym (c .before .refuse-header .ensures) ∙ c .if1 .left)
 
 mul-n : tie.Need-mul-n
 mul-n c =
@@ -51,10 +51,14 @@ returns-4 c =
     let t = passed (c .before .before .before) in
     rw (t .0, t .1, le-ltb _ _ (c .before .before .if2 .left), le-ltb _ _ (c .before .if3 .left), lt-ltb _ _ (c .if4 .taken))
 
+refuse-clarity-requires : tie.Need-refuse-clarity-requires
+refuse-clarity-requires c κs = search needs
+
 returns-5 : tie.Need-returns-5
 returns-5 c =
-    let t = passed (c .before .before .before) in
-    rw (t .0, t .1, le-ltb _ _ (c .before .before .if2 .left), le-ltb _ _ (c .before .if3 .left), le-ltb _ _ (c .if4 .left))
+    let i = c .before in
+    let t = passed (i .before .before .before) in
+    rw (t .0, t .1, le-ltb _ _ (i .before .before .if2 .left), le-ltb _ _ (i .before .if3 .left), le-ltb _ _ (i .if4 .left)) (c .refuse-clarity .ensures)
 
 pub refuse-all-spec : {M : Type 1} → statement M
 refuse-all-spec =
@@ -69,4 +73,5 @@ refuse-all-spec =
     mul-if3
     returns-3
     returns-4
+    refuse-clarity-requires
     returns-5)

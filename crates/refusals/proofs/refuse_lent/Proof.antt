@@ -22,7 +22,7 @@ cast-n-2 : tie.Need-cast-n-2
 cast-n-2 c = search needs
 
 passed : (c : tie.Else1) → Taken (c .before .before .args .side) (c .before .before .args .header)
-passed c = header-taken _ _ (sym (c .before .refuse-header .ensures) ∙ c .if1 .left)
+passed c = header-taken (c .before .before .args .side) (c .before .before .args .header) (sym (c .before .refuse-header .ensures) ∙ c .if1 .left)
 
 mul-n : tie.Need-mul-n
 mul-n c =
@@ -40,12 +40,16 @@ returns-3 c =
     let t = passed (c .before .before) in
     rw (t .0, t .1, le-ltb _ _ (c .before .if2 .left), lt-ltb _ _ (c .if3 .taken))
 
+refuse-clarity-requires : tie.Need-refuse-clarity-requires
+refuse-clarity-requires c κs = search needs
+
 returns-4 : tie.Need-returns-4
 returns-4 c =
-    let t = passed (c .before .before) in
-    rw (t .0, t .1, le-ltb _ _ (c .before .if2 .left), le-ltb _ _ (c .if3 .left))
+    let i = c .before in
+    let t = passed (i .before .before) in
+    rw (t .0, t .1, le-ltb _ _ (i .before .if2 .left), le-ltb _ _ (i .if3 .left)) (c .refuse-clarity .ensures)
 
 pub refuse-lent-spec : {M : Type 1} → statement M
 refuse-lent-spec =
     tie.close
-    (tie.spec refuse-header-requires returns cast-n cast-n-2 mul-n returns-2 returns-3 returns-4)
+    (tie.spec refuse-header-requires returns cast-n cast-n-2 mul-n returns-2 returns-3 refuse-clarity-requires returns-4)

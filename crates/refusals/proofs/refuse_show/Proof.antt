@@ -1,11 +1,14 @@
 -- `refusals::refuse_show` meets its contract. Assumes nothing.
-use mathlib.Core.Path.{sym, _∙_}
+use mathlib.Core.Path.{_≡_, sym, _∙_}
+use mathlib.Core.Bool.{false, not}
 use Prim.Native.Nat.{_+_, _*_, _≤_, _<_}
 use native.Mathlib.Omega.{arith}
 use borrow.Author.Tests.{lt-ltb, le-ltb}
+use Rattle.clarity.specs.Clarity.{lawfulOf}
 use Rattle.machine.proofs.Places.{block-lt}
 use Rattle.machine.proofs.Held.{inside-of}
-use Rattle.machine.proofs.Ends.{is-stale, not-stale, Taken, header-taken, header-refused, small, small-words}
+use Rattle.machine.proofs.Ends.{is-stale, not-stale, Taken, header-taken, header-refused, clarity-taken, clarity-refused}
+use Rattle.machine.proofs.Ends.{small, small-words}
 use borrow.Author.Needs.{needs}
 use Rattle.refusals.proofs.refuse_show.Statement.{statement}
 use Rattle.refusals.proofs.refuse_show.Tie as tie
@@ -25,7 +28,7 @@ cast-n-2 : tie.Need-cast-n-2
 cast-n-2 c = search needs
 
 passed : (c : tie.Else1) → Taken (c .before .before .before .args .side) (c .before .before .before .args .header)
-passed c = header-taken _ _ (sym (c .before .refuse-header .ensures) ∙ c .if1 .left)
+passed c = header-taken (c .before .before .before .args .side) (c .before .before .before .args .header) (sym (c .before .refuse-header .ensures) ∙ c .if1 .left)
 
 mul-n : tie.Need-mul-n
 mul-n c =
@@ -49,8 +52,22 @@ returns-3 c =
     let t = passed (c .before .before) in
     rw (t .0, t .1, le-ltb _ _ (c .before .if2 .left), lt-ltb _ _ (c .if3 .taken))
 
-cast-if5 : tie.Need-cast-if5
-cast-if5 c = search needs
+refuse-clarity-requires : tie.Need-refuse-clarity-requires
+refuse-clarity-requires c κs = search needs
+
+returns-4 : tie.Need-returns-4
+returns-4 c =
+    let i = c .before .before in
+    let t = passed (i .before .before) in
+    rw (t .0, t .1, le-ltb _ _ (i .before .if2 .left), le-ltb _ _ (i .if3 .left))
+    (clarity-refused (i .before .before .before .before .before .args .header) (c .before .refuse-clarity .result) _ (c .before .refuse-clarity .ensures) (c .if4 .taken))
+
+-- the setting is lawful
+clear : (c : tie.Else4) → not (lawfulOf (c .before .before .before .before .before .before .before .args .header .clarity)) ≡ false
+clear c = clarity-taken (c .before .before .before .before .before .before .before .args .header) (sym (c .before .refuse-clarity .ensures) ∙ c .if4 .left)
+
+cast-if6 : tie.Need-cast-if6
+cast-if6 c = search needs
 
 -- the block's mark lies within the marks
 abbrev At : tie.Start → Type 0
@@ -58,39 +75,42 @@ At s =
     (s .args .by * s .args .header .w + s .args .bx < s .args .header .w * s .args .header .h)
     × (s .args .header .w * s .args .header .h ≤ 4194304)
 
-at : (c : tie.Then4) → At (c .before .before .before .before .before .before)
+at : (c : tie.Then5) → At (c .before .before .before .before .before .before .before .before)
 at c =
-    let k = c .before .before .before in
+    let k = c .before .before .before .before .before in
     let s = k .before .before .before in
     let a = s .args in
-    let i = inside-of (a .header .w) (a .header .h) (a .bx) (a .by) (c .if4 .taken) in
+    let i = inside-of (a .header .w) (a .header .h) (a .bx) (a .by) (c .if5 .taken) in
     (block-lt (i .0) (i .1), small (a .side) (a .header .w) (a .header .h) (s .pre .0) (passed k .0))
 
-mul-if5 : tie.Need-mul-if5
-mul-if5 c = omega (arith, at c)
+mul-if6 : tie.Need-mul-if6
+mul-if6 c = omega (arith, at c)
 
-add-if5 : tie.Need-add-if5
-add-if5 c = omega (arith, at c)
+add-if6 : tie.Need-add-if6
+add-if6 c = omega (arith, at c)
 
-shared-slice-read-if5 : tie.Need-shared-slice-read-if5
-shared-slice-read-if5 c = omega (arith, at (c .before))
-
-returns-4 : tie.Need-returns-4
-returns-4 c =
-    let i = c .before .before in
-    let t = passed (i .before .before .before) in
-    rw (t .0, t .1, le-ltb _ _ (i .before .before .if2 .left), le-ltb _ _ (i .before .if3 .left), i .if4 .taken, is-stale _ (c .if5 .taken))
+shared-slice-read-if6 : tie.Need-shared-slice-read-if6
+shared-slice-read-if6 c = omega (arith, at (c .before))
 
 returns-5 : tie.Need-returns-5
 returns-5 c =
     let i = c .before .before in
-    let t = passed (i .before .before .before) in
-    rw (t .0, t .1, le-ltb _ _ (i .before .before .if2 .left), le-ltb _ _ (i .before .if3 .left), i .if4 .taken, not-stale _ (c .if5 .left))
+    let j = i .before .before .before in
+    let t = passed (j .before .before) in
+    rw (t .0, t .1, le-ltb _ _ (j .before .if2 .left), le-ltb _ _ (j .if3 .left), clear (i .before), i .if5 .taken, is-stale _ (c .if6 .taken))
 
 returns-6 : tie.Need-returns-6
 returns-6 c =
-    let t = passed (c .before .before .before) in
-    rw (t .0, t .1, le-ltb _ _ (c .before .before .if2 .left), le-ltb _ _ (c .before .if3 .left), c .if4 .left)
+    let i = c .before .before in
+    let j = i .before .before .before in
+    let t = passed (j .before .before) in
+    rw (t .0, t .1, le-ltb _ _ (j .before .if2 .left), le-ltb _ _ (j .if3 .left), clear (i .before), i .if5 .taken, not-stale _ (c .if6 .left))
+
+returns-7 : tie.Need-returns-7
+returns-7 c =
+    let j = c .before .before .before in
+    let t = passed (j .before .before) in
+    rw (t .0, t .1, le-ltb _ _ (j .before .if2 .left), le-ltb _ _ (j .if3 .left), clear (c .before), c .if5 .left)
 
 pub refuse-show-spec : {M : Type 1} → statement M
 refuse-show-spec =
@@ -104,10 +124,12 @@ refuse-show-spec =
     mul-if2
     returns-2
     returns-3
-    cast-if5
-    mul-if5
-    add-if5
-    shared-slice-read-if5
+    refuse-clarity-requires
     returns-4
+    cast-if6
+    mul-if6
+    add-if6
+    shared-slice-read-if6
     returns-5
-    returns-6)
+    returns-6
+    returns-7)

@@ -44,8 +44,8 @@ returns c =
     let first = c .before .before .before .before .before .before .before .before .before .before in
     let start = first .before .before .before .before .before .before .before in
     let a = start .args in
-    enlarged (a .w) (a .h) (a .picture .now) _ _ _ _ _ _ (start .pre) (first .passes .ensures)
-    (rw (whole-rest (a .h * (a .w * 4)) (first .passes .last .1 .1 .1 .1 .1 .1 .1 .1 .1 .0)) at (c .before .before .put-rect .ensures))
+    enlarged (a .clarity) (a .w) (a .h) (a .picture .now) _ _ _ _ _ _ (start .pre) (first .passes .ensures)
+    (rw (whole-rest (a .h * (a .w * 4)) (first .passes .last .1 .1 .1 .1 .1 .1 .1 .1 .1 .1 .0)) at (c .before .before .put-rect .ensures))
 
 pub enlarge-spec : {M : Type 1} → statement M
 enlarge-spec =

@@ -31,13 +31,13 @@ refusal-requires c κs = tt
 
 -- the number is that of the definition
 number : (c : tie.After-refusal) → let a = c .before .before .before .before .before .before .args in
-    c .refusal .result ≡ refusal3 (a .w) (a .h) (a .picture .now) (a .output .now) (a .singles .now) (a .bytes .now)
+    c .refusal .result ≡ refusal3 (a .clarity) (a .w) (a .h) (a .picture .now) (a .output .now) (a .singles .now) (a .bytes .now)
 number c =
     let a = c .before .before .before .before .before .before .args in
     let l = lent3 (a .picture .now) (a .output .now) (a .singles .now) (a .bytes .now) in
     c .refusal .ensures
-    ∙ ap (λ (n : ℕ). refusalOf (asked3 (a .w) (a .h) n) l) (c .before .words-of .ensures)
-    ∙ refusal-within 2048 (a .w) (a .h) (λ n. 9 * n) (λ n. 0) (λ n. 8 * n) l
+    ∙ ap (λ (n : ℕ). refusalOf (a .clarity) (asked3 (a .w) (a .h) n) l) (c .before .words-of .ensures)
+    ∙ refusal-within (a .clarity) 2048 (a .w) (a .h) (λ n. 9 * n) (λ n. 0) (λ n. 8 * n) l
 
 returns : tie.Need-returns
 returns c =
@@ -47,7 +47,7 @@ enlarge-requires : tie.Need-enlarge-requires
 enlarge-requires c κs =
     let a = c .before .before .before .before .before .before .before .before .before .before .args in
     let l = lent3 (a .picture .now) (a .output .now) (a .singles .now) (a .bytes .now) in
-    let k = accepted (asked3 (a .w) (a .h) (a .w * a .h)) l (sym (number (c .before .before .before .before)) ∙ c .before .before .before .if1 .left) in
+    let k = accepted (a .clarity) (asked3 (a .w) (a .h) (a .w * a .h)) l (sym (number (c .before .before .before .before)) ∙ c .before .before .before .if1 .left) in
     record { wide = k .wide; high = k .high; picture = k .picture-fits; output = k .output-fits; singles = k .singles-fit; bytes = k .bytes-fit }
 
 same-length : tie.Need-same-length

@@ -20,6 +20,13 @@ use Rattle.whole.proofs.scale9x.Tie as tie
 words-of-requires : tie.Need-words-of-requires
 words-of-requires c κs = lit≤ tt
 
+mul-m : tie.Need-mul-m
+mul-m c = omega (
+  arith,
+  within-small 682 (c .before .before .before .before .before .before .args .w) (c .before .before .before .before .before .before .args .h)
+      (c .words-of .result) (lit≤ tt) (c .words-of .ensures),
+)
+
 mul-refusal : tie.Need-mul-refusal
 mul-refusal c = omega (
   arith,
@@ -34,30 +41,23 @@ mul-refusal-2 c = omega (
       (c .words-of .result) (lit≤ tt) (c .words-of .ensures),
 )
 
-mul-refusal-3 : tie.Need-mul-refusal-3
-mul-refusal-3 c = omega (
-  arith,
-  within-small 682 (c .before .before .before .before .before .before .args .w) (c .before .before .before .before .before .before .args .h)
-      (c .words-of .result) (lit≤ tt) (c .words-of .ensures),
-)
-
 refusal-requires : tie.Need-refusal-requires
 refusal-requires c κs = tt
 
 -- the number is that of the definition
 number : (c : tie.After-refusal) → let a = c .before .before .before .before .before .before .before .args in
-    c .refusal .result ≡ refusal9 (a .w) (a .h) (a .picture .now) (a .output .now) (a .middle .now) (a .singles .now) (a .bytes .now)
+    c .refusal .result ≡ refusal9 (a .clarity) (a .w) (a .h) (a .picture .now) (a .output .now) (a .middle .now) (a .singles .now) (a .bytes .now)
 number c =
     let a = c .before .before .before .before .before .before .before .args in
     let l = lent9 (a .picture .now) (a .output .now) (a .middle .now) (a .singles .now) (a .bytes .now) in
     c .refusal .ensures
-    ∙ ap (λ (n : ℕ). refusalOf (asked9 (a .w) (a .h) n) l) (c .before .words-of .ensures)
-    ∙ refusal-within 682 (a .w) (a .h) (λ n. 81 * n) (λ n. 9 * n) (λ n. 72 * n) l
+    ∙ ap (λ (n : ℕ). refusalOf (a .clarity) (asked9 (a .w) (a .h) n) l) (c .before .words-of .ensures)
+    ∙ refusal-within (a .clarity) 682 (a .w) (a .h) (λ n. 81 * n) (λ n. 9 * n) (λ n. 72 * n) l
 
 -- where the number is 0 the sides are within the limit and the buffers long enough
 fits : (c : tie.Else1) → let a = c .before .before .before .before .before .before .before .before .args in
     Accepted (asked9 (a .w) (a .h) (a .w * a .h)) (lent9 (a .picture .now) (a .output .now) (a .middle .now) (a .singles .now) (a .bytes .now))
-fits c = accepted _ _ (sym (number (c .before)) ∙ c .if1 .left)
+fits c = accepted (c .before .before .before .before .before .before .before .before .args .clarity) _ _ (sym (number (c .before)) ∙ c .if1 .left)
 
 -- and the counted words are those of the picture
 counted : (c : tie.Else1) → let a = c .before .before .before .before .before .before .before .before .args in c .before .before .words-of .result ≡ a .w * a .h
@@ -87,21 +87,13 @@ mul-enlarge c = omega (arith, fits (c .before .before .before .before .before .b
 mul-enlarge-2 : tie.Need-mul-enlarge-2
 mul-enlarge-2 c = omega (arith, fits (c .before .before .before .before .before .before .before .before .before .before) .high)
 
-mul-enlarge-3 : tie.Need-mul-enlarge-3
-mul-enlarge-3 c = omega (
-  arith,
-  fits (c .before .before .before .before .before .before .before .before .before .before) .middle-fits,
-  counted
-      (c .before .before .before .before .before .before .before .before .before .before),
-)
-
 slice-reshare-prefix-enlarge : tie.Need-slice-reshare-prefix-enlarge
 slice-reshare-prefix-enlarge c = omega (
   arith,
   fits (c .before .before .before .before .before .before .before .before .before .before) .middle-fits,
   counted
       (c .before .before .before .before .before .before .before .before .before .before),
-  c .before .before .before .before .before .before .enlarge .kept .1 .1 .1 .0,
+  c .before .before .before .before .before .before .enlarge .kept .1 .1 .1 .1 .0,
 )
 
 slice-aggregate-enlarge : tie.Need-slice-aggregate-enlarge
@@ -111,7 +103,7 @@ slice-aggregate-enlarge c = sym
       fits (c .before .before .before .before .before .before .before .before .before .before .before) .middle-fits,
       counted
           (c .before .before .before .before .before .before .before .before .before .before .before),
-      c .before .before .before .before .before .before .before .enlarge .kept .1 .1 .1 .0,
+      c .before .before .before .before .before .before .before .enlarge .kept .1 .1 .1 .1 .0,
     )))
 
 enlarge-requires-2 : tie.Need-enlarge-requires-2
@@ -122,15 +114,15 @@ enlarge-requires-2 c κs =
     let q = nine-words (s .before .before .before .before .before .before .before .before .args .w) (s .before .before .before .before .before .before .before .before .args .h) in
     let m = length-take-le
     (9 * s .before .before .words-of .result)
-    (c .before .before .before .before .before .before .before .before .before .before .enlarge .last .1 .1 .1 .0)
-    (omega (arith, k .middle-fits, c .before .before .before .before .before .before .before .before .before .before .enlarge .kept .1 .1 .1 .0)) in
+    (c .before .before .before .before .before .before .before .before .before .before .enlarge .last .1 .1 .1 .1 .0)
+    (omega (arith, k .middle-fits, c .before .before .before .before .before .before .before .before .before .before .enlarge .kept .1 .1 .1 .1 .0)) in
     record {
       wide = omega (arith, k .wide);
       high = omega (arith, k .high);
       picture = omega arith;
       output = omega (arith, k .output-fits);
-      singles = omega (arith, k .singles-fit, c .before .before .before .before .before .before .before .before .before .before .enlarge .kept .1 .1 .1 .1 .0);
-      bytes = omega (arith, k .bytes-fit, c .before .before .before .before .before .before .before .before .before .before .enlarge .kept .1 .1 .1 .1 .1 .0);
+      singles = omega (arith, k .singles-fit, c .before .before .before .before .before .before .before .before .before .before .enlarge .kept .1 .1 .1 .1 .1 .0);
+      bytes = omega (arith, k .bytes-fit, c .before .before .before .before .before .before .before .before .before .before .enlarge .kept .1 .1 .1 .1 .1 .1 .0);
     }
 
 same-length : tie.Need-same-length
@@ -155,35 +147,35 @@ returns-2 c =
     let e = k₀ .enlarge .ensures in
     let d = c .before .before .before .before .before .before .enlarge2 .ensures in
     let f = words (a .w) (a .picture .now) in
-    let m = scaleOf (a .w) (a .h) f in
+    let m = scaleOf (a .clarity) (a .w) (a .h) f in
     let g = words (3 * a .w) m in
     let u = 3 * a .w in
     let v = 3 * a .h in
-    let nine : length m ≡ 9 * n = scale-length (a .w) (a .h) f ∙ ap (λ (i : ℕ). 9 * i)
+    let nine : length m ≡ 9 * n = scale-length (a .clarity) (a .w) (a .h) f ∙ ap (λ (i : ℕ). 9 * i)
     (sym (counted (k₀ .before .before .before .before))) in
     let same : take (9 * n)
-    (k₀ .enlarge .last .1 .1 .1 .0) ≡ m = ap (take (9 * n)) (e .output-is) ∙ take-front m (a .middle .now) (9 * n) nine in
+    (k₀ .enlarge .last .1 .1 .1 .1 .0) ≡ m = ap (take (9 * n)) (e .output-is) ∙ take-front m (a .middle .now) (9 * n) nine in
     let q = nine-words (a .w) (a .h) in
-    let s = singles-length (a .w) (a .h) f in
-    let s′ = singles-length u v g in
-    let t = bytes-length (a .w) (a .h) f in
-    let t′ = bytes-length u v g in
+    let s = singles-length (a .clarity) (a .w) (a .h) f in
+    let s′ = singles-length (a .clarity) u v g in
+    let t = bytes-length (a .clarity) (a .w) (a .h) f in
+    let t′ = bytes-length (a .clarity) u v g in
     record {
       refusal-now = number (k₀ .before .before .before .before .before);
       middle-now = written _ _ _ _ z (e .output-is);
-      output-now = written _ _ _ _ z (d .output-is ∙ ap (λ (l : List ℕ). put 0 (scaleOf u v (words u l)) (a .output .now)) same);
+      output-now = written _ _ _ _ z (d .output-is ∙ ap (λ (l : List ℕ). put 0 (scaleOf (a .clarity) u v (words u l)) (a .output .now)) same);
       singles-now =
           written _ _ _ _ z
-          (d .singles-are ∙ ap (λ (l : List ℕ). put 0 (singlesOf u v (words u l))
-          (k₀ .enlarge .last .1 .1 .1 .1 .0)) same
-          ∙ ap (put 0 (singlesOf u v g)) (e .singles-are)
-          ∙ put-over (singlesOf (a .w) (a .h) f) (singlesOf u v g) (a .singles .now) (omega arith) (omega (arith, k .singles-fit)));
+          (d .singles-are ∙ ap (λ (l : List ℕ). put 0 (singlesOf (a .clarity) u v (words u l))
+          (k₀ .enlarge .last .1 .1 .1 .1 .1 .0)) same
+          ∙ ap (put 0 (singlesOf (a .clarity) u v g)) (e .singles-are)
+          ∙ put-over (singlesOf (a .clarity) (a .w) (a .h) f) (singlesOf (a .clarity) u v g) (a .singles .now) (omega arith) (omega (arith, k .singles-fit)));
       bytes-now =
           written _ _ _ _ z
-          (d .bytes-are ∙ ap (λ (l : List ℕ). put 0 (bytesOf u v (words u l))
-          (k₀ .enlarge .last .1 .1 .1 .1 .1 .0)) same
-          ∙ ap (put 0 (bytesOf u v g)) (e .bytes-are)
-          ∙ put-over (bytesOf (a .w) (a .h) f) (bytesOf u v g) (a .bytes .now) (omega arith) (omega (arith, k .bytes-fit)));
+          (d .bytes-are ∙ ap (λ (l : List ℕ). put 0 (bytesOf (a .clarity) u v (words u l))
+          (k₀ .enlarge .last .1 .1 .1 .1 .1 .1 .0)) same
+          ∙ ap (put 0 (bytesOf (a .clarity) u v g)) (e .bytes-are)
+          ∙ put-over (bytesOf (a .clarity) (a .w) (a .h) f) (bytesOf (a .clarity) u v g) (a .bytes .now) (omega arith) (omega (arith, k .bytes-fit)));
     }
 
 pub scale9x-spec : {M : Type 1} → statement M
@@ -191,15 +183,14 @@ scale9x-spec =
     tie.close
     (tie.spec
     words-of-requires
+    mul-m
     mul-refusal
     mul-refusal-2
-    mul-refusal-3
     refusal-requires
     returns
     enlarge-requires
     mul-enlarge
     mul-enlarge-2
-    mul-enlarge-3
     slice-reshare-prefix-enlarge
     slice-aggregate-enlarge
     enlarge-requires-2

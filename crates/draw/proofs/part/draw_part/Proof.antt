@@ -14,17 +14,17 @@ use Rattle.draw.proofs.part.draw_part.Statement.{statement}
 use Rattle.draw.proofs.part.draw_part.Tie as tie
 
 abbrev Inv-loop : tie.InvT-loop
-Inv-loop picture output₀ marks₀ w h end y bottom x₀ output marks x =
+Inv-loop picture output₀ marks₀ w h q end y bottom x₀ output marks x =
     (x ≤ end) × (length output ≡ length output₀) × (length marks ≡ length marks₀)
-    × Swept screen3 w h (Inside w 0 x y bottom) picture output₀ marks₀ output marks
+    × Swept screen3 w h q (Inside w 0 x y bottom) picture output₀ marks₀ output marks
 
 abbrev μ-loop : tie.MeasureT-loop
-μ-loop picture output₀ marks₀ w h end y bottom x₀ output marks x = end - x
+μ-loop picture output₀ marks₀ w h q end y bottom x₀ output marks x = end - x
 
 returns : tie.Need-returns Inv-loop μ-loop
 returns c =
     let a = c .before .before .before .before .args in
-    swept-none screen3 (a .w) (a .h) (a .picture .now) (a .output .now) (a .marks .now) (λ b i. absurd (omega (arith, i .above, i .below)))
+    swept-none screen3 (a .w) (a .h) (a .clarity) (a .picture .now) (a .output .now) (a .marks .now) (λ b i. absurd (omega (arith, i .above, i .below)))
 
 first-column-requires : tie.Need-first-column-requires Inv-loop μ-loop
 first-column-requires c κs =
@@ -37,7 +37,7 @@ loop-holds : tie.Need-loop-holds Inv-loop μ-loop
 loop-holds c =
     let a = c .before .before .before .before .before .before .args in
     let f = c .first-column .ensures in
-    (f .1 .0, refl, refl, swept-none screen3 (a .w) (a .h) (a .picture .now) (a .output .now) (a .marks .now) (f .1 .1))
+    (f .1 .0, refl, refl, swept-none screen3 (a .w) (a .h) (a .clarity) (a .picture .now) (a .output .now) (a .marks .now) (f .1 .1))
 
 add-least : tie.Need-add-least Inv-loop μ-loop
 add-least c = search needs
@@ -71,7 +71,7 @@ first-column-requires-2 c κs =
     let d = c .before .before .before .before .before .draw-window in
     let to = c .before .before .before .before .before .before .before .before .least in
     let e = to .ensures in
-    let long = draws-marks-length screen3 (a .w) (a .h) (a .picture .now) (d .ensures .draws) ∙ l .inv .2 in
+    let long = draws-marks-length screen3 (a .w) (a .h) (a .clarity) (a .picture .now) (d .ensures .draws) ∙ l .inv .2 in
     part-of (a .w) (a .h) (to .result) (a .end) (a .y) (a .bottom) (d .last .1 .1 .0) (p .wide) (p .high)
     (omega (arith, p .for-marks, long)) (omega (arith, e)) (omega arith) (omega arith) (omega arith)
 
@@ -89,11 +89,11 @@ loop-again c =
     let e = c .before .before .before .before .before .before .before .before .before .least .ensures in
     let f = c .first-column2 .ensures in (
       f .1 .0,
-      draws-output-length screen3 (a .w) (a .h) (a .picture .now) (d .ensures .draws) ∙ l .inv .1,
-      draws-marks-length screen3 (a .w) (a .h) (a .picture .now) (d .ensures .draws) ∙ l .inv .2,
-      swept-columns screen3 (a .w) (a .h) (a .picture .now) (c .before .before .before .before .before .before .before .before .before .least .result) (omega arith) (f .0)
-          (swept-columns screen3 (a .w) (a .h) (a .picture .now) (l .x) (omega arith) (omega (arith, e)) (l .inv .3) (d .ensures))
-          (swept-none screen3 (a .w) (a .h) (a .picture .now) (d .last .1 .0) (d .last .1 .1 .0) (f .1 .1)),
+      draws-output-length screen3 (a .w) (a .h) (a .clarity) (a .picture .now) (d .ensures .draws) ∙ l .inv .1,
+      draws-marks-length screen3 (a .w) (a .h) (a .clarity) (a .picture .now) (d .ensures .draws) ∙ l .inv .2,
+      swept-columns screen3 (a .w) (a .h) (a .clarity) (a .picture .now) (c .before .before .before .before .before .before .before .before .before .least .result) (omega arith) (f .0)
+          (swept-columns screen3 (a .w) (a .h) (a .clarity) (a .picture .now) (l .x) (omega arith) (omega (arith, e)) (l .inv .3) (d .ensures))
+          (swept-none screen3 (a .w) (a .h) (a .clarity) (a .picture .now) (d .last .1 .0) (d .last .1 .1 .0) (f .1 .1)),
     )
 
 same-length : tie.Need-same-length Inv-loop μ-loop
@@ -107,7 +107,7 @@ returns-2 c =
     let a = c .before .before .before .before .before .before .before .before .args in
     let l = c .before .loop in
     let e : l .x ≡ a .end = omega arith in
-    subst (λ (x : ℕ). Swept screen3 (a .w) (a .h) (Inside (a .w) 0 x (a .y) (a .bottom)) (a .picture .now) (a .output .now) (a .marks .now)
+    subst (λ (x : ℕ). Swept screen3 (a .w) (a .h) (a .clarity) (Inside (a .w) 0 x (a .y) (a .bottom)) (a .picture .now) (a .output .now) (a .marks .now)
     (l .output) (l .marks)) e (l .inv .3)
 
 pub draw-part-spec : {M : Type 1} → statement M

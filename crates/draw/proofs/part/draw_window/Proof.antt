@@ -77,7 +77,7 @@ returns c =
     let r = right .ensures in
     let e = low .ensures in
     let f = top .ensures in
-    window-swept screen3 (a .w) (a .h) (a .picture .now) (a .x) (a .end) (a .y) (a .bottom) (right .result) (top .result) (low .result)
+    window-swept screen3 (a .w) (a .h) (a .clarity) (a .picture .now) (a .x) (a .end) (a .y) (a .bottom) (right .result) (top .result) (low .result)
     (omega (arith, r .0)) (r .1 .0) (f .0) (omega (arith, e .0)) (e .1 .0) (f .1 .1) (r .1 .1) (e .1 .1) (c .before .before .before .before .draw-tile .ensures)
 
 pub draw-window-spec : {M : Type 1} → statement M

@@ -16,12 +16,12 @@ use Rattle.draw.proofs.tile.draw_rows.Statement.{statement}
 use Rattle.draw.proofs.tile.draw_rows.Tie as tie
 
 abbrev Inv-loop : tie.InvT-loop
-Inv-loop picture output₀ marks₀ w h x y k r tags row j₀ from₀ output marks j from =
+Inv-loop picture output₀ marks₀ w h q x y k r tags row j₀ from₀ output marks j from =
     (j ≤ r) × (from ≡ j * (k * 4)) × (length output ≡ length output₀) × (length marks ≡ length marks₀)
-    × Swept screen3 w h (Inside w x (x + k) y (y + j)) picture output₀ marks₀ output marks
+    × Swept screen3 w h q (Inside w x (x + k) y (y + j)) picture output₀ marks₀ output marks
 
 abbrev μ-loop : tie.MeasureT-loop
-μ-loop picture output₀ marks₀ w h x y k r tags row j₀ from₀ output marks j from = r - j
+μ-loop picture output₀ marks₀ w h q x y k r tags row j₀ from₀ output marks j from = r - j
 
 mul-row : tie.Need-mul-row Inv-loop μ-loop
 mul-row c = search needs
@@ -33,7 +33,7 @@ loop-holds c =
       sym (zero-mul (a .k * 4)),
       refl,
       refl,
-      swept-none screen3 (a .w) (a .h) (a .picture .now) (a .output .now) (a .marks .now) (λ b i. absurd (omega (arith, i .above, i .below))),
+      swept-none screen3 (a .w) (a .h) (a .clarity) (a .picture .now) (a .output .now) (a .marks .now) (λ b i. absurd (omega (arith, i .above, i .below))),
     )
 
 add-draw-stale : tie.Need-add-draw-stale Inv-loop μ-loop
@@ -45,7 +45,7 @@ draw-stale-requires c κs =
     let a = s .args in
     let l = c .before .before .before .loop in
     let p = s .pre .1 in (
-      subst (λ (f : ℕ). RowTags (a .w) (a .h) (a .picture .now) (a .x) (a .y + l .j) (a .k) f (a .tags .now)) (sym (l .inv .1)) (s .pre .0 .1 (l .j) (omega arith)),
+      subst (λ (f : ℕ). RowTags (a .w) (a .h) (a .clarity) (a .picture .now) (a .x) (a .y + l .j) (a .k) f (a .tags .now)) (sym (l .inv .1)) (s .pre .0 .1 (l .j) (omega arith)),
       lent-still p (l .inv .2) (l .inv .3),
     )
 
@@ -69,13 +69,13 @@ loop-again c =
     let l = c .before .before .before .before .before .before .before .before .loop in
     let d = c .before .before .before .before .draw-stale .ensures in
     let e : a .y + l .j + 1 ≡ a .y + (l .j + 1) = omega arith in
-    let row = subst (λ (b : ℕ). Swept screen3 (a .w) (a .h) (Inside (a .w) (a .x) (a .x + a .k) (a .y + l .j) b) (a .picture .now)
+    let row = subst (λ (b : ℕ). Swept screen3 (a .w) (a .h) (a .clarity) (Inside (a .w) (a .x) (a .x + a .k) (a .y + l .j) b) (a .picture .now)
     (l .output) (l .marks) (c .before .before .before .before .draw-stale .last .1 .0) (c .before .before .before .before .draw-stale .last .1 .1 .0)) e d in (
       omega arith,
       omega (arith, l .inv .1, add-one-mul (l .j) (a .k * 4)),
-      draws-output-length screen3 (a .w) (a .h) (a .picture .now) (d .draws) ∙ l .inv .2,
-      draws-marks-length screen3 (a .w) (a .h) (a .picture .now) (d .draws) ∙ l .inv .3,
-      swept-rows screen3 (a .w) (a .h) (a .picture .now) (a .y + l .j) (omega arith) (omega arith) (l .inv .4) row,
+      draws-output-length screen3 (a .w) (a .h) (a .clarity) (a .picture .now) (d .draws) ∙ l .inv .2,
+      draws-marks-length screen3 (a .w) (a .h) (a .clarity) (a .picture .now) (d .draws) ∙ l .inv .3,
+      swept-rows screen3 (a .w) (a .h) (a .clarity) (a .picture .now) (a .y + l .j) (omega arith) (omega arith) (l .inv .4) row,
     )
 
 same-length : tie.Need-same-length Inv-loop μ-loop
@@ -89,7 +89,7 @@ returns c =
     let a = c .before .before .before .before .before .before .args in
     let l = c .before .loop in
     let e : a .y + l .j ≡ a .y + a .r = omega arith in
-    subst (λ (b : ℕ). Swept screen3 (a .w) (a .h) (Inside (a .w) (a .x) (a .x + a .k) (a .y) b) (a .picture .now) (a .output .now) (a .marks .now)
+    subst (λ (b : ℕ). Swept screen3 (a .w) (a .h) (a .clarity) (Inside (a .w) (a .x) (a .x + a .k) (a .y) b) (a .picture .now) (a .output .now) (a .marks .now)
     (l .output) (l .marks)) e (l .inv .4)
 
 pub draw-rows-spec : {M : Type 1} → statement M

@@ -7,7 +7,7 @@ use lib.ListN.{length}
 use Rattle.picture.specs.Picture.{words}
 use Rattle.grid.specs.Grid.{tagsAt}
 use Rattle.block.specs.Block.{blockFrom}
-use Rattle.block.specs.Store.{putRow}
+use Rattle.stored.specs.Store.{putRow}
 use Rattle.machine.proofs.Places.{row-end}
 use Rattle.three.proofs.Runs.{run-drawn}
 use Rattle.draw.proofs.Tagged.{run-room}
@@ -58,7 +58,7 @@ returns c =
           c .before .before .before .before .before .before .put-row .ensures
           ∙ ap (λ (i : ℕ). putRow (3 * a .w) i (a .n) (λ i. blockFrom (a .w) (a .h) (words (a .w) (a .picture .now)) (a .x + i) (a .y)
           (tagsAt (a .tags .now) (a .from + i * 4))) (a .output .now)) (c .before .before .before .before .before .before .before .before .corner .ensures)
-          ∙ run-drawn (a .w) (a .h) (a .x) (a .y) (a .n) (a .picture .now) (a .output .now) (λ i. tagsAt (a .tags .now) (a .from + i * 4))
+          ∙ run-drawn (a .clarity) (a .w) (a .h) (a .x) (a .y) (a .n) (a .picture .now) (a .output .now) (λ i. tagsAt (a .tags .now) (a .from + i * 4))
           (t .along) (t .down) (s .pre .1 .for-output) (t .each);
       marks-now = c .before .before .clear-run .ensures;
     }

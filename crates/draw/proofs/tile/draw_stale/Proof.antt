@@ -17,12 +17,12 @@ use Rattle.draw.proofs.tile.draw_stale.Statement.{statement}
 use Rattle.draw.proofs.tile.draw_stale.Tie as tie
 
 abbrev Inv-loop : tie.InvT-loop
-Inv-loop picture output₀ marks₀ w h x y k tags from start i₀ output marks i =
+Inv-loop picture output₀ marks₀ w h q x y k tags from start i₀ output marks i =
     (i ≤ k) × (length output ≡ length output₀) × (length marks ≡ length marks₀)
-    × Swept screen3 w h (Inside w x (x + i) y (y + 1)) picture output₀ marks₀ output marks
+    × Swept screen3 w h q (Inside w x (x + i) y (y + 1)) picture output₀ marks₀ output marks
 
 abbrev μ-loop : tie.MeasureT-loop
-μ-loop picture output₀ marks₀ w h x y k tags from start i₀ output marks i = k - i
+μ-loop picture output₀ marks₀ w h q x y k tags from start i₀ output marks i = k - i
 
 -- the row lies within the marks
 record Row (w h x y k m : ℕ) : Type 0 where
@@ -55,7 +55,7 @@ add-start c = omega (arith, row-of (c .before .before .before .before) _ refl)
 loop-holds : tie.Need-loop-holds Inv-loop μ-loop
 loop-holds c =
     let a = c .before .before .before .before .args in
-    (omega arith, refl, refl, swept-none screen3 (a .w) (a .h) (a .picture .now) (a .output .now) (a .marks .now) (λ b i. absurd (omega (arith, i .left, i .right))))
+    (omega arith, refl, refl, swept-none screen3 (a .w) (a .h) (a .clarity) (a .picture .now) (a .output .now) (a .marks .now) (λ b i. absurd (omega (arith, i .left, i .right))))
 
 cast-b : tie.Need-cast-b Inv-loop μ-loop
 cast-b c = search needs
@@ -82,8 +82,8 @@ loop-again c =
       omega arith,
       l .inv .1,
       l .inv .2,
-      swept-columns screen3 (a .w) (a .h) (a .picture .now) (a .x + l .i) (omega arith) (omega arith) (l .inv .3)
-          (swept-none screen3 (a .w) (a .h) (a .picture .now) (l .output) (l .marks)
+      swept-columns screen3 (a .w) (a .h) (a .clarity) (a .picture .now) (a .x + l .i) (omega arith) (omega arith) (l .inv .3)
+          (swept-none screen3 (a .w) (a .h) (a .clarity) (a .picture .now) (l .output) (l .marks)
           (clear-row (a .w) (l .marks) (a .x + l .i) (a .x + (l .i + 1)) (a .y)
           (run-one (l .marks) (a .y * a .w + (a .x + l .i)) (a .y * a .w + (a .x + (l .i + 1))) (omega arith)
           (ap (λ (b : ℕ). getD (l .marks) b 0) at ∙ zero)))),
@@ -116,7 +116,7 @@ draw-run-requires c κs =
     let l = c .before .before .before .before .before .before .before .loop in
     let p = s .pre .1 in
     let n = c .before .before .stale-run in (
-      (n .ensures .some, tags-from (a .w) (a .h) (a .x) (a .y) (a .k) (a .from) (l .i) (n .result) (a .picture .now) (a .tags .now) (omega (arith, n .ensures .few)) (s .pre .0)),
+      (n .ensures .some, tags-from (a .w) (a .h) (a .clarity) (a .x) (a .y) (a .k) (a .from) (l .i) (n .result) (a .picture .now) (a .tags .now) (omega (arith, n .ensures .few)) (s .pre .0)),
       lent-still p (l .inv .1) (l .inv .2),
     )
 
@@ -137,10 +137,10 @@ loop-again-2 c =
     let at : a .y * a .w + (a .x + l .i) ≡ a .y * a .w + a .x + l .i = omega arith in
     let all = ap (λ (b : ℕ). staleIn b (b + n .result) (l .marks)) at ∙ n .ensures .all-stale in (
       omega (arith, n .ensures .few),
-      draws-output-length screen3 (a .w) (a .h) (a .picture .now) d ∙ l .inv .1,
-      draws-marks-length screen3 (a .w) (a .h) (a .picture .now) d ∙ l .inv .2,
-      swept-columns screen3 (a .w) (a .h) (a .picture .now) (a .x + l .i) (omega arith) (omega arith) (l .inv .3)
-          (run-swept screen3 (a .w) (a .h) (a .picture .now) (a .x + l .i) (a .x + (l .i + n .result)) (a .y) (n .result) (n .ensures .some)
+      draws-output-length screen3 (a .w) (a .h) (a .clarity) (a .picture .now) d ∙ l .inv .1,
+      draws-marks-length screen3 (a .w) (a .h) (a .clarity) (a .picture .now) d ∙ l .inv .2,
+      swept-columns screen3 (a .w) (a .h) (a .clarity) (a .picture .now) (a .x + l .i) (omega arith) (omega arith) (l .inv .3)
+          (run-swept screen3 (a .w) (a .h) (a .clarity) (a .picture .now) (a .x + l .i) (a .x + (l .i + n .result)) (a .y) (n .result) (n .ensures .some)
           (omega arith) (omega (arith, n .ensures .few, r)) all d),
     )
 
@@ -155,7 +155,7 @@ returns c =
     let a = c .before .before .before .before .before .before .args in
     let l = c .before .loop in
     let e : a .x + l .i ≡ a .x + a .k = omega arith in
-    subst (λ (x′ : ℕ). Swept screen3 (a .w) (a .h) (Inside (a .w) (a .x) x′ (a .y) (a .y + 1)) (a .picture .now) (a .output .now) (a .marks .now)
+    subst (λ (x′ : ℕ). Swept screen3 (a .w) (a .h) (a .clarity) (Inside (a .w) (a .x) x′ (a .y) (a .y + 1)) (a .picture .now) (a .output .now) (a .marks .now)
     (l .output) (l .marks)) e (l .inv .3)
 
 pub draw-stale-spec : {M : Type 1} → statement M

@@ -25,7 +25,7 @@ draw-rows-requires : tie.Need-draw-rows-requires
 draw-rows-requires c κs =
     let s = c .before .before .before .before .before .before .before .before .before .before in
     let a = s .args in
-    let t = tile-tags (a .w) (a .h) (a .x) (a .y) (a .k) (a .r) (a .picture .now) (replicate 2352 0) _ (c .before .before .before .before .before .tags-tile .ensures) (s .pre .0)
+    let t = tile-tags (a .w) (a .h) (a .clarity) (a .x) (a .y) (a .k) (a .r) (a .picture .now) (replicate 2352 0) _ (c .before .before .before .before .before .tags-tile .ensures) (s .pre .0)
     (length-replicate {A = ℕ} 2352 0) in
     ((s .pre .0, t), s .pre .1)
 

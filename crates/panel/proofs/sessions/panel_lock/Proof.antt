@@ -1,9 +1,11 @@
 -- `panel::sessions::panel_lock` meets its contract. Assumes nothing.
-use mathlib.Core.Path.{sym, subst₂}
+use mathlib.Core.Path.{sym, ap, subst₂, _∙_}
 use borrow.Author.Needs.{needs}
 use Rattle.header.specs.declared.Header.{Header}
 use Rattle.machine.specs.Calls.{Locks}
+use Rattle.machine.proofs.Ends.{locks-lawful}
 use Rattle.three.specs.Three.{screen3}
+use Rattle.panel.specs.Header.{numbersOf}
 use Rattle.panel.proofs.sessions.panel_lock.Statement.{statement}
 use Rattle.panel.proofs.sessions.panel_lock.Tie as tie
 
@@ -14,15 +16,18 @@ lock-requires : tie.Need-lock-requires
 lock-requires c κs = search needs
 
 numbers-of-requires : tie.Need-numbers-of-requires
-numbers-of-requires c κs = search needs
+numbers-of-requires c κs = locks-lawful (c .lock .ensures)
 
 returns : tie.Need-returns
 returns c =
     let a = c .before .before .before .args in
     let l = c .before .lock in
-    subst₂ (λ (k k′ : Header). Locks screen3 k (record { left = a .left; top = a .top; width = a .width; height = a .height })
-    (record { refusal = l .result .refusal; header = k′ }))
-    (c .before .before .session-of .ensures) (sym (c .numbers-of .ensures)) (l .ensures)
+    let n = c .numbers-of .ensures in (
+      subst₂ (λ (k k′ : Header). Locks screen3 k (record { left = a .left; top = a .top; width = a .width; height = a .height })
+          (record { refusal = l .result .refusal; header = k′ }))
+          (c .before .before .session-of .ensures) (sym (n .1)) (l .ensures),
+      n .0 ∙ ap numbersOf (sym (n .1)),
+    )
 
 pub panel-lock-spec : {M : Type 1} → statement M
 panel-lock-spec =

@@ -26,7 +26,7 @@ no-header-requires c κs = search needs
 
 -- the refusal, for the header that the opening is to answer
 abbrev Refused : tie.Start → ℕ → Type 0
-Refused s r = let a = s .args in r ≡ refusalAll 2048 9 (fresh (a .w) (a .h)) (length (a .picture .now)) (length (a .output .now)) (length (a .marks .now))
+Refused s r = let a = s .args in r ≡ refusalAll 2048 9 (fresh (a .w) (a .h) (a .clarity)) (length (a .picture .now)) (length (a .output .now)) (length (a .marks .now))
 
 refused-of : (c : tie.After-refuse-all) → Refused (c .before .before .before .before .before) (c .refuse-all .result)
 refused-of c =
@@ -38,10 +38,10 @@ returns : tie.Need-returns
 returns c =
     let r = c .before .before in
     let a = r .before .before .before .before .before .args in
-    subst (λ (k : Header). Opens screen3 (a .w) (a .h) (a .picture .now) (a .output .now) (a .marks .now)
+    subst (λ (k : Header). Opens screen3 (a .w) (a .h) (a .clarity) (a .picture .now) (a .output .now) (a .marks .now)
     (record { output = a .output .now; marks = a .marks .now; refusal = r .refuse-all .result; header = k; stale = 0 }))
     (sym (c .before .no-header .ensures))
-    (open-refused screen3 (a .w) (a .h) (a .picture .now) (a .output .now) (a .marks .now) (r .refuse-all .result) (refused-of r) (c .if1 .taken))
+    (open-refused screen3 (a .w) (a .h) (a .clarity) (a .picture .now) (a .output .now) (a .marks .now) (r .refuse-all .result) (refused-of r) (c .if1 .taken))
 
 abbrev LentAt : tie.Start → Type 0
 LentAt s = let a = s .args in Lent screen3 (a .w) (a .h) (length (a .picture .now)) (length (a .output .now)) (length (a .marks .now))
@@ -49,7 +49,7 @@ LentAt s = let a = s .args in Lent screen3 (a .w) (a .h) (length (a .picture .no
 lent-of : (c : tie.Else1) → LentAt (c .before .before .before .before .before .before .before)
 lent-of c =
     let a = c .before .before .before .before .before .before .before .args in
-    lent screen3 (fresh (a .w) (a .h)) (length (a .picture .now)) (length (a .output .now)) (length (a .marks .now))
+    lent screen3 (fresh (a .w) (a .h) (a .clarity)) (length (a .picture .now)) (length (a .output .now)) (length (a .marks .now))
     (sym (refused-of (c .before .before)) ∙ c .if1 .left)
 
 abbrev SmallAt : tie.Start → Type 0
@@ -70,8 +70,8 @@ fill-words-requires c κs = lent-of (c .before) .for-output
 mark-run-requires : tie.Need-mark-run-requires
 mark-run-requires c κs = (omega arith, lent-of (c .before .before .before .before .before) .for-marks)
 
-mul-t21 : tie.Need-mul-t21
-mul-t21 c = omega (arith, small-of (c .before .before .before .before .before .before .before .before))
+mul-t22 : tie.Need-mul-t22
+mul-t22 c = omega (arith, small-of (c .before .before .before .before .before .before .before .before))
 
 same-length : tie.Need-same-length
 same-length c = search needs
@@ -85,10 +85,10 @@ returns-2 c =
     let filled = c .before .before .before .before .before .before .fill-words in
     let k = c .before .before .before .before .before .before .before .before in
     let a = k .before .before .before .before .before .before .before .args in
-    subst (λ (l : Header). Opens screen3 (a .w) (a .h) (a .picture .now) (a .output .now) (a .marks .now)
+    subst (λ (l : Header). Opens screen3 (a .w) (a .h) (a .clarity) (a .picture .now) (a .output .now) (a .marks .now)
     (record { output = filled .last .0; marks = marked .last .0; refusal = 0; header = l; stale = a .w * a .h }))
     (sym (k .before .before .before .fresh .ensures))
-    (open-done screen3 (a .w) (a .h) (a .picture .now) (a .output .now) (a .marks .now) (k .before .before .refuse-all .result) (refused-of (k .before .before))
+    (open-done screen3 (a .w) (a .h) (a .clarity) (a .picture .now) (a .output .now) (a .marks .now) (k .before .before .refuse-all .result) (refused-of (k .before .before))
     (k .if1 .left) (filled .last .0) (marked .last .0) (filled .ensures) (marked .ensures ∙ run-start (a .w * a .h) (a .marks .now) (lent-of k .for-marks)))
 
 pub open-spec : {M : Type 1} → statement M
@@ -103,7 +103,7 @@ open-spec =
     mul-fill-words
     fill-words-requires
     mark-run-requires
-    mul-t21
+    mul-t22
     same-length
     same-length-2
     returns-2)

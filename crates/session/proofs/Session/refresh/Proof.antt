@@ -36,8 +36,8 @@ draw-first-requires c κs = lent-of (c .before .before)
 least-requires : tie.Need-least-requires
 least-requires c κs = search needs
 
-sub-t18 : tie.Need-sub-t18
-sub-t18 c = omega (arith, c .least .ensures)
+sub-t19 : tie.Need-sub-t19
+sub-t19 c = omega (arith, c .least .ensures)
 
 same-length : tie.Need-same-length
 same-length c = search needs
@@ -66,7 +66,7 @@ refresh-spec =
     returns
     draw-first-requires
     least-requires
-    sub-t18
+    sub-t19
     same-length
     same-length-2
     returns-2)

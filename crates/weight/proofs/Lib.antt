@@ -1,0 +1,5 @@
+pub mod Laws
+pub mod Threshold
+pub mod Corner
+pub mod Zeros
+pub mod Ground
