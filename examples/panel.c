@@ -1,20 +1,17 @@
 /*
- * A small session, a legend that is locked, a bar graph, a whole picture three and nine times, settings of clarity, and
- * a page file, through the C face.
- * Every answer is held to what it must be; the first that is not ends the program with status 1 and a line that says
- * where.
+ * A small session, a legend that is locked, a bar graph, a whole picture three and nine times, and a page file, through
+ * the C face. Every answer is held to what it must be. clarity.c beside this file has the settings of clarity.
  * Build in the repository: gcc -std=c99 -Iinclude examples/panel.c target/staticlib/libpanel.a -lm -o panel
  * Build in the archive:    gcc -std=c99 -Iinclude examples/panel.c lib/libpanel.a -lm -o panel
  * -lm is for fegetround, which this program calls; the library does not need it.
  */
 #include <fenv.h>
 #include <inttypes.h>
-#include <math.h>
 #include <stdio.h>
-#include <stdlib.h>
 #include <string.h>
 #include <xmmintrin.h>
 
+#include "expect.h"
 #include "panel.h"
 
 enum { W = 8, H = 6, PIXELS = PANEL_PICTURE_LEN(W, H) };
@@ -32,16 +29,6 @@ static float singles9[PANEL_SINGLES9_LEN(W, H)];
 static uint8_t bytes9[PANEL_BYTES9_LEN(W, H)];
 
 static uint32_t header[PANEL_HEADER_LEN];
-
-#define EXPECT(condition) expect(condition, #condition, __LINE__)
-
-static void expect(int holds, const char *condition, int line)
-{
-    if (holds)
-        return;
-    fprintf(stderr, "panel.c, line %d: not as expected: %s\n", line, condition);
-    exit(EXIT_FAILURE);
-}
 
 /* MXCSR without its six status flags, which a call may leave set. */
 static unsigned control(void)
@@ -417,207 +404,6 @@ static void nine(void)
     EXPECT(scale9x(PANEL_SIDE_9X + 1) == PANEL_SIDE && memcmp(twice, output9, sizeof twice) == 0);
 }
 
-/* Two strokes, each of two shades that are 0.38 apart. The left one stands on white; the ground of the right one has a
-   tone between its two shades, so that it is nearer to both than they are to each other. */
-enum { SHADES_W = 8, SHADES_H = 4, SHADES = PANEL_PICTURE_LEN(SHADES_W, SHADES_H), SETTINGS = 3 };
-
-static const char *const shades[SHADES_H] = {"#...*===", ".+..=-==", "..#.==*=", "...+===-"};
-
-static const struct {
-    char shown;
-    uint32_t word;
-} tones[] = {
-    {'#', 0x00000000u}, {'+', 0x00606060u}, {'.', 0x00ffffffu},
-    {'*', 0x00505050u}, {'-', 0x00b0b0b0u}, {'=', 0x00808080u},
-};
-
-enum { TONES = sizeof tones / sizeof tones[0] };
-
-static uint32_t shade_picture[SHADES], shade_output[SETTINGS][9 * SHADES];
-
-static void draw_shades(void)
-{
-    for (size_t i = 0; i < SHADES; i++)
-        for (size_t tone = 0; tone < TONES; tone++)
-            if (shades[i / SHADES_W][i % SHADES_W] == tones[tone].shown)
-                shade_picture[i] = tones[tone].word;
-}
-
-static char shown(uint32_t word)
-{
-    size_t tone = 0;
-
-    while (tone < TONES && tones[tone].word != word)
-        tone++;
-    EXPECT(tone < TONES);
-    return tones[tone].shown;
-}
-
-static uint32_t scale_shades(uint32_t clarity, float threshold, uint32_t enlarged[9 * SHADES])
-{
-    static float shade_singles[8 * SHADES];
-    static uint8_t shade_bytes[8 * SHADES];
-
-    return panel_scale(SHADES_W, SHADES_H, clarity, threshold, shade_picture, SHADES, enlarged, 9 * SHADES,
-                       shade_singles, 8 * SHADES, shade_bytes, 8 * SHADES);
-}
-
-/* The strokes at the standard, at a lower threshold, which smooths neither, and behind the gate, which lets the left
-   one be smoothed alone. */
-static void clarity_whole(void)
-{
-    uint32_t half[9 * SHADES];
-
-    EXPECT(scale_shades(PANEL_STANDARD, NAN, shade_output[0]) == PANEL_NONE);
-    EXPECT(scale_shades(PANEL_THRESHOLD, 0.25f, shade_output[1]) == PANEL_NONE);
-    EXPECT(scale_shades(PANEL_GATED, 0.5f, shade_output[2]) == PANEL_NONE);
-    EXPECT(scale_shades(PANEL_THRESHOLD, 0.5f, half) == PANEL_NONE);
-    EXPECT(memcmp(half, shade_output[0], sizeof half) == 0);
-    printf("%-26s%-26s%s\n", "standard", "threshold 0.25", "gated 0.5");
-    for (size_t y = 0; y < 3 * SHADES_H; y++) {
-        for (size_t x = 0; x < SETTINGS * 3 * SHADES_W; x++) {
-            size_t setting = x / (3 * SHADES_W), column = x % (3 * SHADES_W);
-
-            printf("%s%c", setting != 0 && column == 0 ? "  " : "",
-                   shown(shade_output[setting][y * 3 * SHADES_W + column]));
-        }
-        putchar('\n');
-    }
-}
-
-/* Nine times, both times behind the gate. */
-static void clarity_nine(void)
-{
-    static uint32_t nine_output[81 * SHADES], nine_middle[9 * SHADES], twice[81 * SHADES];
-    static float nine_singles[72 * SHADES];
-    static uint8_t nine_bytes[72 * SHADES];
-    uint32_t refusal;
-
-    refusal = panel_scale9x(SHADES_W, SHADES_H, PANEL_GATED, 0.5f, shade_picture, SHADES, nine_output, 81 * SHADES,
-                            nine_middle, 9 * SHADES, nine_singles, 72 * SHADES, nine_bytes, 72 * SHADES);
-    EXPECT(refusal == PANEL_NONE && memcmp(nine_middle, shade_output[2], sizeof nine_middle) == 0);
-    printf("scale9x, gated 0.5: refusal %" PRIu32 "\n", refusal);
-    EXPECT(panel_scale(3 * SHADES_W, 3 * SHADES_H, PANEL_GATED, 0.5f, nine_middle, 9 * SHADES, twice, 81 * SHADES,
-                       nine_singles, 72 * SHADES, nine_bytes, 72 * SHADES) == PANEL_NONE);
-    EXPECT(memcmp(twice, nine_output, sizeof twice) == 0);
-    refusal = panel_scale9x(SHADES_W, SHADES_H, PANEL_GATED, 0.0f, shade_picture, SHADES, nine_output, 81 * SHADES,
-                            nine_middle, 9 * SHADES, nine_singles, 72 * SHADES, nine_bytes, 72 * SHADES);
-    EXPECT(refusal == PANEL_CLARITY && memcmp(twice, nine_output, sizeof twice) == 0);
-    printf("scale9x, gated 0: refusal %" PRIu32 "\n", refusal);
-}
-
-static float single(uint32_t pattern)
-{
-    float value;
-
-    memcpy(&value, &pattern, sizeof value);
-    return value;
-}
-
-/* What is lawful and what is not; a refused call keeps the output. */
-static void clarity_lawful(void)
-{
-    static const struct {
-        const char *name;
-        uint32_t clarity, pattern, refusal;
-    } cases[] = {
-        {"threshold of the smallest float above 0", PANEL_THRESHOLD, 0x00000001u, PANEL_NONE},
-        {"gated 1", PANEL_GATED, 0x3f800000u, PANEL_NONE},
-        {"threshold 0", PANEL_THRESHOLD, 0x00000000u, PANEL_CLARITY},
-        {"gated -0", PANEL_GATED, 0x80000000u, PANEL_CLARITY},
-        {"threshold -0.5", PANEL_THRESHOLD, 0xbf000000u, PANEL_CLARITY},
-        {"threshold of the float above 1", PANEL_THRESHOLD, 0x3f800001u, PANEL_CLARITY},
-        {"gated infinity", PANEL_GATED, 0x7f800000u, PANEL_CLARITY},
-        {"threshold NaN", PANEL_THRESHOLD, 0x7fc00000u, PANEL_CLARITY},
-        {"gated NaN", PANEL_GATED, 0xffc00001u, PANEL_CLARITY},
-        {"clarity 3, 0.5", 3, 0x3f000000u, PANEL_CLARITY},
-    };
-    uint32_t enlarged[9 * SHADES], before[9 * SHADES];
-
-    for (size_t i = 0; i < sizeof cases / sizeof cases[0]; i++) {
-        uint32_t refusal;
-
-        memset(enlarged, 0x55, sizeof enlarged);
-        memcpy(before, enlarged, sizeof before);
-        refusal = scale_shades(cases[i].clarity, single(cases[i].pattern), enlarged);
-        EXPECT(refusal == cases[i].refusal);
-        EXPECT((memcmp(enlarged, before, sizeof before) == 0) == (refusal == PANEL_CLARITY));
-        printf("%s: refusal %" PRIu32 "\n", cases[i].name, refusal);
-    }
-}
-
-struct shade_session {
-    uint32_t header[PANEL_HEADER_LEN], picture[SHADES], output[9 * SHADES];
-    uint8_t marks[SHADES];
-};
-
-static uint32_t open_shades(struct shade_session *session, float threshold, uint32_t *stale)
-{
-    memcpy(session->picture, shade_picture, sizeof session->picture);
-    return panel_open(SHADES_W, SHADES_H, PANEL_GATED, threshold, session->picture, SHADES, session->output, 9 * SHADES,
-                      session->marks, SHADES, session->header, stale);
-}
-
-static uint32_t refresh_shades(struct shade_session *session, uint32_t *drawn, uint32_t *left)
-{
-    return panel_refresh(session->header, session->picture, SHADES, session->output, 9 * SHADES, session->marks, SHADES,
-                         UINT32_MAX, drawn, left);
-}
-
-/* A session behind the gate keeps its setting in the header, through a lock too, and draws what scale draws at it. */
-static void clarity_session(struct shade_session *session)
-{
-    uint32_t stale, drawn, left, locked[PANEL_HEADER_LEN];
-
-    memset(session, 0x55, sizeof *session);
-    EXPECT(open_shades(session, -0.0f, &stale) == PANEL_CLARITY && stale == 0);
-    for (size_t i = 0; i < PANEL_HEADER_LEN; i++)
-        EXPECT(session->header[i] == 0);
-    EXPECT(session->marks[0] == 0x55 && session->output[0] == 0x55555555u);
-    EXPECT(open_shades(session, 0.5f, &stale) == PANEL_NONE && stale == SHADES);
-    printf("session, gated 0.5: header ends with %" PRIu32 " and %08" PRIx32 "\n",
-           session->header[PANEL_HEADER_CLARITY], session->header[PANEL_HEADER_THRESHOLD]);
-    EXPECT(session->header[PANEL_HEADER_CLARITY] == PANEL_GATED);
-    EXPECT(session->header[PANEL_HEADER_THRESHOLD] == 0x3f000000u);
-    EXPECT(panel_lock(session->header, 0, 0, 1, 1, locked) == PANEL_NONE);
-    EXPECT(memcmp(locked + PANEL_HEADER_CLARITY, session->header + PANEL_HEADER_CLARITY, 2 * sizeof *locked) == 0);
-    EXPECT(refresh_shades(session, &drawn, &left) == PANEL_NONE && drawn == SHADES && left == 0);
-    EXPECT(memcmp(session->output, shade_output[2], sizeof session->output) == 0);
-    printf("session, gated 0.5: %" PRIu32 " drawn, as scale draws them\n", drawn);
-}
-
-/* A header whose pattern is that of no threshold is refused by every call, after 10 and 4 and before 5 and 12;
-   everything stays. */
-static void clarity_header(struct shade_session *session)
-{
-    static const struct panel_item items[PANEL_LIST_LEN + 1] = {{0, 0, 0}};
-    struct shade_session before;
-    uint32_t refusals[5], a, b, words[PANEL_BLOCK_WORDS], locked[PANEL_HEADER_LEN];
-
-    session->header[PANEL_HEADER_THRESHOLD] = 0x3f800001u;
-    before = *session;
-    refusals[0] = panel_paint(session->header, session->picture, SHADES, session->marks, SHADES, SHADES_W, 0, 0, &a,
-                              &b);
-    EXPECT(a == 0 && b == 0);
-    refusals[1] = panel_paint_list(session->header, session->picture, SHADES, session->marks, SHADES, items,
-                                   PANEL_LIST_LEN + 1, &a);
-    refusals[2] = refresh_shades(session, &a, &b);
-    EXPECT(a == 0 && b == 0);
-    refusals[3] = panel_show(session->header, session->output, 9 * SHADES, session->marks, SHADES, SHADES_W, 0, words);
-    refusals[4] = panel_lock(session->header, 0, 0, 1, 1, locked);
-    EXPECT(words[0] == 0 && locked[PANEL_HEADER_W] == 0 && locked[PANEL_HEADER_CLARITY] == 0);
-    printf("header with the pattern 3f800001: paint, list, refresh, show, lock refused");
-    for (size_t i = 0; i < sizeof refusals / sizeof refusals[0]; i++) {
-        EXPECT(refusals[i] == PANEL_CLARITY);
-        printf(" %" PRIu32, refusals[i]);
-    }
-    putchar('\n');
-    EXPECT(panel_show(session->header, session->output, 9 * SHADES, session->marks, SHADES - 1, 0, 0, words)
-           == PANEL_SCRATCH);
-    EXPECT(panel_lock(session->header, 0, 0, SHADES_W + 1, 1, locked) == PANEL_LOCK);
-    EXPECT(memcmp(session, &before, sizeof before) == 0);
-}
-
 /* A file that holds no page: the number is answered, the sides are 0, and the picture keeps its word. */
 static void no_page(const char *what, const uint8_t *file, size_t file_len)
 {
@@ -667,7 +453,6 @@ static void numbers(void)
 int main(void)
 {
     struct meter meter;
-    struct shade_session session;
 
     environment();
     version();
@@ -683,12 +468,6 @@ int main(void)
     bar_graph_refused(&meter);
     whole();
     nine();
-    draw_shades();
-    clarity_whole();
-    clarity_nine();
-    clarity_lawful();
-    clarity_session(&session);
-    clarity_header(&session);
     page();
     numbers();
     /* nothing but status flags was left in the floating-point unit */

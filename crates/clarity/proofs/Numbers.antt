@@ -16,7 +16,7 @@ use Rattle.single.specs.Root.{single, rooted}
 use Rattle.single.specs.Laws.{single-mono}
 use Rattle.single.specs.Floats.{has-value, ofBits-rooted, ofBits-mono}
 use Rattle.clarity.specs.declared.Clarity.the-variants.{Standard, Threshold, Gated}
-use Rattle.clarity.specs.Clarity.{lawfulSingle, lawfulOf, settingOf, clarityOf}
+use Rattle.clarity.specs.Clarity.{lawfulSingle, lawfulOf, plainly, settingOf, clarityOf}
 use Rattle.nonneg.proofs.Nonneg.{le-trans'}
 use Rattle.clarity.proofs.Thresholds.{lawful-positive, positive-rooted}
 
@@ -115,3 +115,9 @@ threshold-again t f l = rw (inner t f l, ofBits-toBits binary32 t f)
 
 pub gated-again : (t : Float) → T (fits binary32 t) → T (lawfulSingle t) → clarityOf 2 (toBits binary32 t) ≡ Gated t
 gated-again t f l = rw (inner t f l, ofBits-toBits binary32 t f)
+
+-- ---- kind 0, whatever single or pattern stands beside it, counts as kind 1 with that of 0.5
+pub standard-numbers : (t : Float) (bits : ℕ) → (plainly (settingOf 0 t) ≡ plainly (settingOf 1 (ofBits binary32 0x3f00_0000)))
+    × (plainly (clarityOf 0 bits) ≡ plainly (clarityOf 1 0x3f00_0000))
+unfolding ofBits
+standard-numbers t bits = (refl, refl)

@@ -1,11 +1,11 @@
 -- The version of the C face, as three parts and as one number. Definitions only; include/panel.h has the same number.
 use Prim.Native.Nat.{ℕ, _+_, _*_}
 
--- raised where a caller's source has to change
+-- 0 so far; from 1 on raised where a caller's source has to change
 abbrev pub major : ℕ
 major = 0
 
--- raised where a call is added, or answers otherwise
+-- raised where a call is added or answers otherwise, and while major is 0 where a caller's source has to change
 abbrev pub minor : ℕ
 minor = 6
 
