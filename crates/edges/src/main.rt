@@ -121,6 +121,26 @@ fn item(column: u32, row: u32, word: u32) -> Paint {
     Paint { column, row, word }
 }
 
+// One position three times, with the word that was there at the end: its blocks are stale.
+fn repeated(session: Session, picture: &mut [u32; 12], marks: &mut [u8; 12]) {
+    let mut a = none();
+    a[0] = item(0, 0, 5);
+    a[1] = item(0, 0, 6);
+    a[2] = item(0, 0, 1);
+    list(session, picture, marks, a, 3);
+    line(b"words", picture[0], picture[6], 0);
+}
+
+// Through a slice: the last of four in the lock, and then the four taken.
+fn lent(session: Session, picture: &mut [u32; 12], marks: &mut [u8; 12]) {
+    let b = [item(0, 0, 8), item(1, 0, 9), item(0, 0, 10), item(3, 2, 5)];
+    four(session, picture, marks, b);
+    line(b"words", picture[0], picture[1], picture[11]);
+    let c = [item(0, 0, 8), item(1, 0, 9), item(0, 0, 10), item(3, 2, 1)];
+    four(session, picture, marks, c);
+    line(b"words", picture[0], picture[1], picture[11]);
+}
+
 // Lists of paints on a picture of 4 by 3 with its last four pixels locked: each line has the refusal, the stale count and the items.
 fn lists() {
     let mut picture = [1u32; 12];
@@ -147,19 +167,8 @@ fn lists() {
     // 64 items are looked at, and of 65 none.
     list(s, &mut picture, &mut marks, a, 64);
     list(s, &mut picture, &mut marks, a, 65);
-    // One position three times, with the word that was there at the end: its blocks are stale.
-    a[0] = item(0, 0, 5);
-    a[1] = item(0, 0, 6);
-    a[2] = item(0, 0, 1);
-    list(s, &mut picture, &mut marks, a, 3);
-    line(b"words", picture[0], picture[6], 0);
-    // Through a slice: the last of four in the lock, and then the four taken.
-    let b = [item(0, 0, 8), item(1, 0, 9), item(0, 0, 10), item(3, 2, 5)];
-    four(s, &mut picture, &mut marks, b);
-    line(b"words", picture[0], picture[1], picture[11]);
-    let c = [item(0, 0, 8), item(1, 0, 9), item(0, 0, 10), item(3, 2, 1)];
-    four(s, &mut picture, &mut marks, c);
-    line(b"words", picture[0], picture[1], picture[11]);
+    repeated(s, &mut picture, &mut marks);
+    lent(s, &mut picture, &mut marks);
 }
 
 // A header that no call answered: its lock reaches past the picture.
@@ -276,7 +285,19 @@ fn too_wide() {
     line(b"open", o.refusal, o.session.header.w, o.stale);
 }
 
-fn main() {
+// On a picture that is drawn: a paint outside, one of an equal word, and one of a word that differs in its top byte alone, which makes a
+// cross stale; shows of a block in it, of one beside it, and of one outside.
+fn beside(session: Session, picture: &mut [u32], output: &[u32], marks: &mut [u8]) {
+    paint(session, picture, marks, 32, 0, 1);
+    paint(session, picture, marks, 10, 10, 1);
+    paint(session, picture, marks, 10, 10, 16777217);
+    show(session, output, marks, 10, 10);
+    show(session, output, marks, 31, 31);
+    show(session, output, marks, 0, 32);
+}
+
+// A picture of 32 by 32: nothing is drawn, and then all; paints away from borders and at two corners, in slices and at once.
+fn crosses() {
     let mut picture = [0u32; 1024];
     let mut output = [7u32; 9216];
     let mut marks = [0u8; 1024];
@@ -293,13 +314,11 @@ fn main() {
     refresh(s, &picture, &mut output, &mut marks, 1024);
     paint(s, &mut picture, &mut marks, 31, 31, 1);
     refresh(s, &picture, &mut output, &mut marks, 1024);
-    // Outside; an equal word; a word that differs in its top byte alone.
-    paint(s, &mut picture, &mut marks, 32, 0, 1);
-    paint(s, &mut picture, &mut marks, 10, 10, 1);
-    paint(s, &mut picture, &mut marks, 10, 10, 16777217);
-    show(s, &output, &marks, 10, 10);
-    show(s, &output, &marks, 31, 31);
-    show(s, &output, &marks, 0, 32);
+    beside(s, &mut picture, &output, &mut marks);
+}
+
+fn main() {
+    crosses();
     too_wide();
     locks();
     lists();

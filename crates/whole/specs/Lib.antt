@@ -2,3 +2,4 @@ pub mod Whole
 pub mod Calls
 pub mod Laws
 pub mod Passes
+pub mod Examples
