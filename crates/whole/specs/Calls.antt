@@ -1,79 +1,16 @@
 -- What `scale` and `scale9x` answer and leave, for every input and every setting of clarity. Definitions only.
 use mathlib.Core.Path.{_≡_}
-use mathlib.Core.Bool.{cond, _||_}
+use mathlib.Core.Bool.{cond}
 use mathlib.Core.List.{List}
 use Prim.Native.Nat.{ℕ, _*_}
-use lib.Dec.{ltb, eqb}
+use lib.Dec.{eqb}
 use lib.Ieee.{Float}
-use lib.ListN.{length}
 use Rattle.picture.specs.Picture.{words}
 use Rattle.picture.specs.Fill.{put}
 use Rattle.picture.specs.Refusal as Refusal
 use Rattle.clarity.specs.declared.Clarity.{Clarity}
-use Rattle.clarity.specs.Clarity.{lawfulOf}
+use Rattle.sizes.specs.Sizes.{refusal3, refusal9}
 use Rattle.whole.specs.Whole.{scaleOf, singlesOf, bytesOf}
-
--- what a call asks for: sides within a limit, and so many words of the picture, the output and the middle, and elements of both singles
--- and bytes
-pub record Asked : Type 0 where
-  pub limit : ℕ
-  pub w : ℕ
-  pub h : ℕ
-  pub picture : ℕ
-  pub output : ℕ
-  pub middle : ℕ
-  pub scratch : ℕ
-
--- the lengths of the buffers that it is lent
-pub record Lengths : Type 0 where
-  pub picture : ℕ
-  pub output : ℕ
-  pub middle : ℕ
-  pub singles : ℕ
-  pub bytes : ℕ
-
--- the number of the refusal, the first condition that holds
-abbrev pub refusalOf : Clarity → Asked → Lengths → ℕ
-refusalOf q asked lent =
-    cond (ltb (asked .limit) (asked .w) || ltb (asked .limit) (asked .h)) Refusal.side
-    (cond (ltb (lent .picture) (asked .picture)) Refusal.picture
-    (cond (ltb (lent .output) (asked .output)) Refusal.output
-    (cond (ltb (lent .middle) (asked .middle) || ltb (lent .singles) (asked .scratch) || ltb (lent .bytes) (asked .scratch)) Refusal.scratch
-    (cond (lawfulOf q) Refusal.none Refusal.clarity))))
-
--- three-times of a picture of w by h and n words: the output has nine words for each, and no middle is lent. A word takes eight singles,
--- a metric of four and weights of four, and eight bytes, junctions of four and tags of four
-abbrev pub asked3 : ℕ → ℕ → ℕ → Asked
-asked3 w h n = record { limit = 2048; w = w; h = h; picture = n; output = 9 * n; middle = 0; scratch = 8 * n }
-
-abbrev pub lent3 : List ℕ → List ℕ → List Float → List ℕ → Lengths
-lent3 picture output singles bytes = record {
-  picture = length picture;
-  output = length output;
-  middle = 0;
-  singles = length singles;
-  bytes = length bytes;
-}
-
-abbrev pub refusal3 : Clarity → ℕ → ℕ → List ℕ → List ℕ → List Float → List ℕ → ℕ
-refusal3 q w h picture output singles bytes = refusalOf q (asked3 w h (w * h)) (lent3 picture output singles bytes)
-
--- nine-times: the middle is a whole three-times output, whose sides, 3 * 682 at most, are within three-times' limit, and whose own passes
--- take the singles and bytes
-abbrev pub asked9 : ℕ → ℕ → ℕ → Asked
-asked9 w h n = record { limit = 682; w = w; h = h; picture = n; output = 81 * n; middle = 9 * n; scratch = 72 * n }
-
-abbrev pub lent9 : List ℕ → List ℕ → List ℕ → List Float → List ℕ → Lengths
-lent9 picture output middle singles bytes = record {
-  picture = length picture;
-  output = length output;
-  middle = length middle;
-  singles = length singles;
-  bytes = length bytes;
-}
-
-abbrev pub refusal9 : Clarity → ℕ → ℕ → List ℕ → List ℕ → List ℕ → List Float → List ℕ → ℕ
-refusal9 q w h picture output middle singles bytes = refusalOf q (asked9 w h (w * h)) (lent9 picture output middle singles bytes)
 
 -- a buffer with vs at its front, unless the call was refused
 abbrev pub filled : {E : Type 0} → ℕ → List E → List E → List E

@@ -2,4 +2,3 @@ pub mod Whole
 pub mod Calls
 pub mod Laws
 pub mod Passes
-pub mod Examples

@@ -1,11 +1,9 @@
 -- The passes over a whole picture leave section 8's lists. Assumes nothing.
 use mathlib.Core.Path.{_≡_, refl, sym, _∙_, ap, ap₂}
-use mathlib.Core.Bool.{cond, _||_}
 use mathlib.Core.List.{List, _++_}
 use Prim.Native.Nat.{ℕ, _+_, _-_, _*_, _≤_, _<_}
 use native.Mathlib.Nat.{zero-add, mul-assoc}
 use native.Mathlib.Omega.{arith}
-use lib.Dec.{ltb}
 use lib.Ieee.{Float, nan}
 use lib.ListN.{length, drop}
 use Rattle.picture.specs.Picture.{words}
@@ -23,10 +21,6 @@ use Rattle.stored.specs.Store.{putRect}
 use Rattle.stored.specs.StoreLaws.{rect-same}
 use Rattle.whole.specs.Whole.{allOf, scaleOf, singlesOf, bytesOf}
 use Rattle.whole.specs.Laws.{rect-filled}
-
--- the words of a picture within the limit, and 0 past it
-abbrev pub wordsWithin : ℕ → ℕ → ℕ → ℕ
-wordsWithin side w h = cond (ltb side w || ltb side h) 0 (w * h)
 
 -- the buffers' lengths suffice, and the sides are small enough to count with
 pub record Fits (w h p o s b : ℕ) : Type 0 where

@@ -1,69 +1,18 @@
 // Whole pictures: three-times and nine-times, into buffers that the caller lends.
 use block::passes;
 use clarity::Clarity;
-use clarity::lawful;
 use grid::Grid;
+use sizes::refusal;
+use sizes::words_of;
 use stored::put_rect;
-ghost use mathlib.Core.Path.{_≡_};
-ghost use Prim.Native.Nat.{_≤_};
 ghost use lib.ListN.{length};
-ghost use Rattle.whole.specs.Calls.{refusalOf, Scales, Scales9};
-ghost use Rattle.whole.specs.Passes.{Fits, Enlarged, wordsWithin};
+ghost use Rattle.whole.specs.Calls.{Scales, Scales9};
+ghost use Rattle.whole.specs.Passes.{Fits, Enlarged};
 
 // The largest side of a picture that is enlarged three times, and nine times: 3 * 682 is within 2,048.
 pub const SIDE3: u32 = 2048;
 
 pub const SIDE9: u32 = 682;
-
-// The number that turns a call away, or 0: side is the limit, n, o, m and s the elements that picture, output, middle and both of
-// singles and bytes have to have. What is lent is looked at before the setting.
-fn refusal(
-    clarity: Clarity,
-    side: u32,
-    w: u32,
-    h: u32,
-    n: usize,
-    o: usize,
-    m: usize,
-    s: usize,
-    picture: usize,
-    output: usize,
-    middle: usize,
-    singles: usize,
-    bytes: usize,
-) -> u32
-    ensures { λ r. ⌜ r ≡ refusalOf clarity
-        (record { limit = side; w = w; h = h; picture = n; output = o; middle = m; scratch = s })
-        (record { picture = picture; output = output; middle = middle; singles = singles; bytes = bytes }) ⌝ }
-{
-    if (side < w) | (side < h) {
-        return picture::refusal::SIDE;
-    }
-    if picture < n {
-        return picture::refusal::PICTURE;
-    }
-    if output < o {
-        return picture::refusal::OUTPUT;
-    }
-    if (middle < m) | (singles < s) | (bytes < s) {
-        return picture::refusal::SCRATCH;
-    }
-    if !lawful(clarity) {
-        return picture::refusal::CLARITY;
-    }
-    picture::refusal::NONE
-}
-
-// The words of a picture within the limit, and 0 past it, where no length is looked at.
-fn words_of(side: u32, w: u32, h: u32) -> usize
-    requires { ⌜ side ≤ 2048 ⌝ }
-    ensures { λ r. ⌜ r ≡ wordsWithin side w h ⌝ }
-{
-    if (side < w) | (side < h) {
-        return 0;
-    }
-    (w as usize) * (h as usize)
-}
 
 // The five passes over a whole picture whose buffers are long enough.
 fn enlarge(

@@ -3,8 +3,9 @@ use native.Mathlib.Omega.{arith}
 use mathlib.Core.Path.{_≡_, sym, _∙_, ap}
 use Prim.Native.Nat.{ℕ, _*_}
 use lib.Dec.{lit≤}
-use Rattle.whole.specs.Calls.{asked3, lent3, refusalOf, refusal3}
-use Rattle.whole.proofs.Sizes.{within-small, refusal-within, accepted, kept, written}
+use Rattle.sizes.specs.Sizes.{asked3, lent3, refusalOf, refusal3}
+use Rattle.sizes.proofs.Sizes.{within-small, refusal-within, accepted}
+use Rattle.whole.proofs.Sizes.{kept, written}
 use borrow.Author.Needs.{needs}
 use Rattle.whole.proofs.scale.Statement.{statement}
 use Rattle.whole.proofs.scale.Tie as tie

@@ -11,8 +11,9 @@ use Rattle.picture.specs.Picture.{words}
 use Rattle.picture.specs.Fill.{put, put-over, take-front}
 use Rattle.whole.specs.Whole.{scaleOf, singlesOf, bytesOf}
 use Rattle.whole.specs.Laws.{scale-length, singles-length, bytes-length}
-use Rattle.whole.specs.Calls.{asked9, lent9, refusalOf, refusal9}
-use Rattle.whole.proofs.Sizes.{within-small, within-is, nine-words, refusal-within, Accepted, accepted, kept, written}
+use Rattle.sizes.specs.Sizes.{asked9, lent9, refusalOf, refusal9}
+use Rattle.sizes.proofs.Sizes.{within-small, within-is, refusal-within, Accepted, accepted}
+use Rattle.whole.proofs.Sizes.{nine-words, kept, written}
 use borrow.Author.Needs.{needs}
 use Rattle.whole.proofs.scale9x.Statement.{statement}
 use Rattle.whole.proofs.scale9x.Tie as tie

@@ -9,7 +9,7 @@ use Rattle.picture.specs.Refusal as Refusal
 use Rattle.single.specs.Single.{f0}
 use Rattle.clarity.specs.declared.Clarity.{Clarity}
 use Rattle.clarity.specs.declared.Clarity.the-variants.{Standard, Threshold}
-use Rattle.whole.specs.Calls.{refusal3, refusal9}
+use Rattle.sizes.specs.Sizes.{refusal3, refusal9}
 
 abbrev zeros : ℕ → List ℕ
 zeros n = replicate n 0

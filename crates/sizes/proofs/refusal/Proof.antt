@@ -1,8 +1,8 @@
--- `whole::refusal` meets its contract: each return by the tests that led there. Assumes nothing.
+-- `sizes::refusal` meets its contract: each return by the tests that led there. Assumes nothing.
 use mathlib.Core.Path.{sym}
 use borrow.Author.Tests.{lt-ltb, le-ltb, not-true, not-false}
-use Rattle.whole.proofs.refusal.Statement.{statement}
-use Rattle.whole.proofs.refusal.Tie as tie
+use Rattle.sizes.proofs.refusal.Statement.{statement}
+use Rattle.sizes.proofs.refusal.Tie as tie
 
 returns : tie.Need-returns
 returns c = simp (c .if1 .taken)

@@ -1,8 +1,8 @@
--- `whole::words_of` meets its contract. Assumes nothing.
+-- `sizes::words_of` meets its contract. Assumes nothing.
 use native.Mathlib.Omega.{arith}
-use Rattle.whole.proofs.Sizes.{product-fits}
-use Rattle.whole.proofs.words_of.Statement.{statement}
-use Rattle.whole.proofs.words_of.Tie as tie
+use Rattle.sizes.proofs.Sizes.{product-fits}
+use Rattle.sizes.proofs.words_of.Statement.{statement}
+use Rattle.sizes.proofs.words_of.Tie as tie
 
 returns : tie.Need-returns
 returns c = simp (c .if1 .taken)
