@@ -1,12 +1,14 @@
--- What a block depends on, for every size of picture and for every setting of clarity, lawful or not: section 6's cross. Assumes nothing.
-use mathlib.Core.Path.{_≡_, refl}
+-- What a block depends on, for every size of picture and for every setting of clarity, lawful or not: section 6's cross; and a window that
+-- reaches as far has the same block. Assumes nothing.
+use mathlib.Core.Path.{_≡_, refl, sym}
 use mathlib.Core.List.{[], _∷_}
-use Prim.Native.Nat.{ℕ, zero, suc, _<_}
+use Prim.Native.Nat.{ℕ, zero, suc, _+_, _-_, _<_}
 use native.Mathlib.Omega.{arith}
 use lib.IntN.{pos}
 use lib.ListN.{length, getD}
 use Rattle.picture.specs.Picture.{moved}
-use Rattle.picture.specs.Local.{Agree}
+use Rattle.picture.specs.Local.{Agree, Match, agreed, narrower}
+use Rattle.picture.specs.Span.{Span, windowed}
 use Rattle.picture.specs.Pipeline as Pipeline
 use Rattle.picture.specs.Pipeline.{Stages}
 use Rattle.clarity.specs.declared.Clarity.{Clarity}
@@ -44,15 +46,31 @@ stages q = record {
   offY = λ t k. offsetOf (tagOf t k) .dy;
 }
 
+module _ (q : Clarity) {w h cols rows : ℕ} {to-x to-y : ℕ → ℕ} {f g : ℕ → ℕ → ℕ} {bx by : ℕ} (hx : bx < w) (hy : by < h) where
+  -- a block of one picture is that of another that has the same pixels round it
+  matched : Match w h cols rows to-x to-y bx by 6 6 3 2 f g → Match w h cols rows to-x to-y bx by 3 3 6 5 f g
+      → blockOf q w h f bx by ≡ blockOf q cols rows g (to-x bx) (to-y by)
+  unfolding blockOf blockFrom tagWord pictureTags pictureJunctions tags junctions weights metrics Pipeline.blockWord Pipeline.tags
+      Pipeline.junctions Pipeline.weights Pipeline.metrics stages tagOf
+  matched e e′ =
+      let k = Pipeline.cross (stages q) hx hy (λ t k. offset-reaches (tagOf t k)) e e′ in
+      λ i. k 0 i ∷ k 1 i ∷ k 2 i ∷ k 3 i ∷ k 4 i ∷ k 5 i ∷ k 6 i ∷ k 7 i ∷ k 8 i ∷ []
+
 module _ (q : Clarity) (w h : ℕ) (f g : ℕ → ℕ → ℕ) (bx by : ℕ) (hx : bx < w) (hy : by < h) where
   -- section 6: block (bx, by) depends on no pixel but those of columns bx - 6 to bx + 6 and rows by - 3 to by + 2, and those of
   -- columns bx - 3 to bx + 3 and rows by - 6 to by + 5
   pub cross : Agree w h bx by 6 6 3 2 f g → Agree w h bx by 3 3 6 5 f g → blockOf q w h f bx by ≡ blockOf q w h g bx by
-  unfolding blockOf blockFrom tagWord pictureTags pictureJunctions tags junctions weights metrics Pipeline.blockWord Pipeline.tags
-      Pipeline.junctions Pipeline.weights Pipeline.metrics stages tagOf
-  cross e e′ =
-      let k = Pipeline.cross (stages q) (λ t k. offset-reaches (tagOf t k)) w h f g bx by hx hy e e′ in
-      λ i. k 0 i ∷ k 1 i ∷ k 2 i ∷ k 3 i ∷ k 4 i ∷ k 5 i ∷ k 6 i ∷ k 7 i ∷ k 8 i ∷ []
+  cross e e′ = matched q hx hy (agreed e) (agreed e′)
+
+-- a window of cols by rows pixels from (x0, y0) on that reaches six columns to each side of (bx, by), six rows up and five down, or ends
+-- where the picture does, has the picture's block there
+pub in-window : (q : Clarity) (w h : ℕ) (f : ℕ → ℕ → ℕ) (x0 y0 cols rows : ℕ) (g : ℕ → ℕ → ℕ) (bx by : ℕ) → bx < w → by < h
+    → Span w x0 cols bx 6 6 → Span h y0 rows by 6 5 → ((x y : ℕ) → x < cols → y < rows → g x y ≡ f (x0 + x) (y0 + y))
+    → blockOf q cols rows g (bx - x0) (by - y0) ≡ blockOf q w h f bx by
+in-window q w h f x0 y0 cols rows g bx by hx hy sx sy e =
+    let m = windowed sx sy e in
+    sym (matched q hx hy (narrower (omega arith) (omega arith) (omega arith) (omega arith) m)
+    (narrower (omega arith) (omega arith) (omega arith) (omega arith) m))
 
 -- section 6: a block has nine words, and the middle word is the pixel
 pub block-length : (q : Clarity) (w h : ℕ) (f : ℕ → ℕ → ℕ) (x y : ℕ) → length (blockOf q w h f x y) ≡ 9

@@ -7,7 +7,7 @@ use native.Mathlib.Nat.{mul-le-mul}
 use native.Mathlib.Omega.{arith}
 use lib.Ieee.{Float, nan}
 use lib.ListN.{length, take, drop}
-use Rattle.picture.specs.Local.{In, narrower}
+use Rattle.picture.specs.Local.{In, agreed, narrower}
 use Rattle.picture.specs.Fill.{flat-same, put, take-put, length-put}
 use Rattle.picture.specs.Pipeline as Pipeline
 use Rattle.clarity.specs.declared.Clarity.{Clarity}
@@ -58,25 +58,25 @@ module _ (w h : ℕ) where
         → weights q w h (metricField g l) x y ≡ weights q w h m x y
     unfolding weights Pipeline.weights stages
     weights-right q k x y i =
-        Pipeline.weights-agree (stages q) w h {bx = x} {by = y} {l = 0} {r = 0} {u = 0} {d = 0}
-        (metrics-kept g w h x y 1 1 1 1 (fed k x y i) m l hm) x y (here k x y i)
+        Pipeline.weights-agree (stages q) {l = 0} {r = 0} {u = 0} {d = 0}
+        (agreed (metrics-kept g w h x y 1 1 1 1 (fed k x y i) m l hm)) .same x y (here k x y i)
 
     pub junctions-right : {q : Grid} (n : ℕ → ℕ → Weights) (s : List Float) → Holds nan ofWeights (λ r. refl) v n s → Feeds 1 1 g w h q
         → Feeds 1 1 v w h q
         → (x y : ℕ) → Within q x y → junctions w h (metricField g l) (weightsField v s) x y ≡ junctions w h m n x y
     unfolding junctions Pipeline.junctions stages
     junctions-right n s hn k k′ x y i =
-        Pipeline.junctions-agree (stages Standard) w h {bx = x} {by = y} {l = 0} {r = 0} {u = 0} {d = 0}
-        (metrics-kept g w h x y 1 1 1 1 (fed k x y i) m l hm)
-        (weights-kept v w h x y 1 1 1 1 (fed k′ x y i) n s hn) x y (here k x y i)
+        Pipeline.junctions-agree (stages Standard) {l = 0} {r = 0} {u = 0} {d = 0}
+        (agreed (metrics-kept g w h x y 1 1 1 1 (fed k x y i) m l hm))
+        (agreed (weights-kept v w h x y 1 1 1 1 (fed k′ x y i) n s hn)) .same x y (here k x y i)
 
   pub tags-right : {q t : Grid} (n : ℕ → ℕ → Junctions) (l : List ℕ) → Holds 0 ofJunctions (λ r. refl) q n l → Feeds 3 3 q w h t
       → (x y : ℕ) → Within t x y → tags w h (junctionsField q l) x y ≡ tags w h n x y
   unfolding tags Pipeline.tags stages
   tags-right {q} n l hn k x y i =
-      let e = junctions-kept q w h x y 3 3 3 3 (fed k x y i) n l hn in
+      let e = agreed (junctions-kept q w h x y 3 3 3 3 (fed k x y i) n l hn) in
       let o = here k x y i in
-      Pipeline.tags-agree (stages Standard) w h (o .on-x) (o .on-y)
+      Pipeline.tags-agree (stages Standard) (o .on-x) (o .on-y)
       (narrower (omega arith) (omega arith) (omega arith) (omega arith) e)
       (narrower (omega arith) (omega arith) (omega arith) (omega arith) e)
 

@@ -1,11 +1,12 @@
--- The five stages as local functions of fields, over any stage functions, and what a block depends on. Assumes nothing.
+-- The five stages as local functions of fields, over any stage functions, and what a block depends on, in one picture or in a window of
+-- it. Assumes nothing.
 use mathlib.Core.Path.{_≡_, _∙_, ap}
 use Prim.Native.Nat.{ℕ, _+_, _<_}
 use native.Mathlib.Omega.{arith}
 use lib.IntN.{ℤ, pos, negsuc}
 use lib.Dec.{T}
 use Rattle.picture.specs.Picture.{near}
-use Rattle.picture.specs.Local.{In, Agree, reaches, near-agrees, narrower}
+use Rattle.picture.specs.Local.{Match, here, reaches, near-agrees, narrower, stage}
 
 -- the stage functions, of what each reads
 pub record Stages (P M W J G : Type 0) : Type 0 where
@@ -69,75 +70,77 @@ module _ {P M W J G : Type 0} (s : Stages P M W J G) (w h : ℕ) where
   unfoldable pub blockWord : (ℕ → ℕ → P) → ℕ → ℕ → ℕ → P
   blockWord f x y k = let t = allTags f x y in near w h f x y (s .offX t k) (s .offY t k)
 
-  -- ---- what each stage depends on
+-- ---- what each stage depends on: fields of a picture of w by h and of one of cols by rows that agree around (bx, by)
 
-  module _ {bx by : ℕ} where
-    pub metrics-agree : {l r u d : ℕ} {f g : ℕ → ℕ → P} → Agree w h bx by (l + 1) (r + 1) (u + 1) (d + 0) f g
-        → Agree w h bx by l r u d (metrics f) (metrics g)
-    unfolding metrics
-    metrics-agree e x y i =
-        let n = near-agrees 1 1 1 0 e x y i in
-        cc (n (pos 0) (pos 0) tt, n (negsuc 0) (negsuc 0) tt, n (pos 0) (negsuc 0) tt, n (pos 1) (negsuc 0) tt, n (pos 1) (pos 0) tt)
+module _ {P M W J G : Type 0} (s : Stages P M W J G) {w h cols rows : ℕ} {to-x to-y : ℕ → ℕ} {bx by : ℕ} where
+  pub metrics-agree : {l r u d : ℕ} {f g : ℕ → ℕ → P} → Match w h cols rows to-x to-y bx by (l + 1) (r + 1) (u + 1) (d + 0) f g
+      → Match w h cols rows to-x to-y bx by l r u d (metrics s w h f) (metrics s cols rows g)
+  unfolding metrics
+  metrics-agree e =
+      stage 1 1 1 0 e (λ x y i n.
+      cc (n (pos 0) (pos 0) tt, n (negsuc 0) (negsuc 0) tt, n (pos 0) (negsuc 0) tt, n (pos 1) (negsuc 0) tt, n (pos 1) (pos 0) tt))
 
-    pub weights-agree : {l r u d : ℕ} {f g : ℕ → ℕ → M} → Agree w h bx by (l + 1) (r + 1) (u + 1) (d + 1) f g
-        → Agree w h bx by l r u d (weights f) (weights g)
-    unfolding weights
-    weights-agree e x y i =
-        let n = near-agrees 1 1 1 1 e x y i in
-        cc (
-          n (negsuc 0) (negsuc 0) tt,
-          n (pos 0) (negsuc 0) tt,
-          n (negsuc 0) (pos 0) tt,
-          n (pos 0) (pos 0) tt,
-          n (pos 1) (pos 0) tt,
-          n (negsuc 0) (pos 1) tt,
-          n (pos 0) (pos 1) tt,
-          n (pos 1) (pos 1) tt,
-        )
+  pub weights-agree : {l r u d : ℕ} {f g : ℕ → ℕ → M} → Match w h cols rows to-x to-y bx by (l + 1) (r + 1) (u + 1) (d + 1) f g
+      → Match w h cols rows to-x to-y bx by l r u d (weights s w h f) (weights s cols rows g)
+  unfolding weights
+  weights-agree e =
+      stage 1 1 1 1 e (λ x y i n.
+      cc (
+        n (negsuc 0) (negsuc 0) tt,
+        n (pos 0) (negsuc 0) tt,
+        n (negsuc 0) (pos 0) tt,
+        n (pos 0) (pos 0) tt,
+        n (pos 1) (pos 0) tt,
+        n (negsuc 0) (pos 1) tt,
+        n (pos 0) (pos 1) tt,
+        n (pos 1) (pos 1) tt,
+      ))
 
-    pub junctions-agree : {l r u d : ℕ} {f g : ℕ → ℕ → M} {f′ g′ : ℕ → ℕ → W} → Agree w h bx by (l + 1) (r + 1) (u + 1) (d + 1) f g
-        → Agree w h bx by (l + 1) (r + 1) (u + 1) (d + 1) f′ g′ → Agree w h bx by l r u d (junctions f f′) (junctions g g′)
-    unfolding junctions
-    junctions-agree e e′ x y i =
-        let n = near-agrees 1 1 1 1 e x y i in
-        let v = near-agrees 1 1 1 1 e′ x y i in
-        cc (
-          n (negsuc 0) (negsuc 0) tt,
-          n (pos 0) (negsuc 0) tt,
-          n (negsuc 0) (pos 0) tt,
-          n (pos 0) (pos 0) tt,
-          n (pos 1) (pos 0) tt,
-          n (negsuc 0) (pos 1) tt,
-          n (pos 0) (pos 1) tt,
-          n (pos 1) (pos 1) tt,
-          v (negsuc 0) (negsuc 0) tt,
-          v (pos 0) (negsuc 0) tt,
-          v (pos 1) (negsuc 0) tt,
-          v (negsuc 0) (pos 0) tt,
-          v (pos 0) (pos 0) tt,
-          v (pos 1) (pos 0) tt,
-          v (negsuc 0) (pos 1) tt,
-          v (pos 0) (pos 1) tt,
-          v (pos 1) (pos 1) tt,
-        )
+  pub junctions-agree : {l r u d : ℕ} {f g : ℕ → ℕ → M} {f′ g′ : ℕ → ℕ → W}
+      → Match w h cols rows to-x to-y bx by (l + 1) (r + 1) (u + 1) (d + 1) f g
+      → Match w h cols rows to-x to-y bx by (l + 1) (r + 1) (u + 1) (d + 1) f′ g′
+      → Match w h cols rows to-x to-y bx by l r u d (junctions s w h f f′) (junctions s cols rows g g′)
+  unfolding junctions
+  junctions-agree e e′ =
+      stage 1 1 1 1 e (λ x y i n.
+      let v = near-agrees 1 1 1 1 e′ x y i in
+      cc (
+        n (negsuc 0) (negsuc 0) tt,
+        n (pos 0) (negsuc 0) tt,
+        n (negsuc 0) (pos 0) tt,
+        n (pos 0) (pos 0) tt,
+        n (pos 1) (pos 0) tt,
+        n (negsuc 0) (pos 1) tt,
+        n (pos 0) (pos 1) tt,
+        n (pos 1) (pos 1) tt,
+        v (negsuc 0) (negsuc 0) tt,
+        v (pos 0) (negsuc 0) tt,
+        v (pos 1) (negsuc 0) tt,
+        v (negsuc 0) (pos 0) tt,
+        v (pos 0) (pos 0) tt,
+        v (pos 1) (pos 0) tt,
+        v (negsuc 0) (pos 1) tt,
+        v (pos 0) (pos 1) tt,
+        v (pos 1) (pos 1) tt,
+      ))
 
-    -- a junction depends on the pixels at most three away, and two below
-    pub of-picture : {l r u d : ℕ} {f g : ℕ → ℕ → P} → Agree w h bx by (l + 3) (r + 3) (u + 3) (d + 2) f g
-        → Agree w h bx by l r u d (allJunctions f) (allJunctions g)
-    of-picture {l} {r} {u} {d} {f} {g} e =
-        let m : Agree w h bx by (l + 1 + 1) (r + 1 + 1) (u + 1 + 1) (d + 1 + 1) (metrics f) (metrics g) =
-        metrics-agree (narrower (omega arith) (omega arith) (omega arith) (omega arith) e) in
-        junctions-agree (narrower (omega arith) (omega arith) (omega arith) (omega arith) m) (weights-agree m)
+  -- a junction depends on the pixels at most three away, and two below
+  pub of-picture : {l r u d : ℕ} {f g : ℕ → ℕ → P} → Match w h cols rows to-x to-y bx by (l + 3) (r + 3) (u + 3) (d + 2) f g
+      → Match w h cols rows to-x to-y bx by l r u d (allJunctions s w h f) (allJunctions s cols rows g)
+  of-picture {l} {r} {u} {d} {f} {g} e =
+      let m : Match w h cols rows to-x to-y bx by (l + 1 + 1) (r + 1 + 1) (u + 1 + 1) (d + 1 + 1) (metrics s w h f) (metrics s cols rows g) =
+      metrics-agree (narrower (omega arith) (omega arith) (omega arith) (omega arith) e) in
+      junctions-agree (narrower (omega arith) (omega arith) (omega arith) (omega arith) m) (weights-agree m)
 
+  module _ (hx : bx < w) (hy : by < h) where
     -- a tag depends on the junctions of its row, three to each side, and of its column
-    pub tags-agree : {f g : ℕ → ℕ → J} → bx < w → by < h → Agree w h bx by (0 + 3) (0 + 3) 0 0 f g → Agree w h bx by 0 0 (0 + 3) (0 + 3) f g
-        → tags f bx by ≡ tags g bx by
+    pub tags-agree : {f g : ℕ → ℕ → J} → Match w h cols rows to-x to-y bx by (0 + 3) (0 + 3) 0 0 f g
+        → Match w h cols rows to-x to-y bx by 0 0 (0 + 3) (0 + 3) f g
+        → tags s w h f bx by ≡ tags s cols rows g (to-x bx) (to-y by)
     unfolding tags
-    tags-agree {f} {g} hx hy e e′ =
-        let i : In w h bx by 0 0 0 0 bx by =
-        record { on-x = hx; on-y = hy; left = omega arith; right = omega arith; above = omega arith; below = omega arith } in
-        let n = near-agrees 3 3 0 0 (narrower (omega arith) (omega arith) (omega arith) (omega arith) e) bx by i in
-        let v = near-agrees 0 0 3 3 (narrower (omega arith) (omega arith) (omega arith) (omega arith) e′) bx by i in
+    tags-agree e e′ =
+        let n = near-agrees 3 3 0 0 (narrower (omega arith) (omega arith) (omega arith) (omega arith) e) bx by (here hx hy) in
+        let v = near-agrees 0 0 3 3 (narrower (omega arith) (omega arith) (omega arith) (omega arith) e′) bx by (here hx hy) in
         cc (
           n (pos 0) (pos 0) tt,
           n (negsuc 0) (pos 0) tt,
@@ -154,17 +157,14 @@ module _ {P M W J G : Type 0} (s : Stages P M W J G) (w h : ℕ) where
           v (pos 0) (pos 3) tt,
         )
 
-module _ {P M W J G : Type 0} (s : Stages P M W J G) (reach : (t : G) (k : ℕ) → T (reaches 2 2 2 2 (s .offX t k) (s .offY t k)))
-    (w h : ℕ) (f g : ℕ → ℕ → P) (bx by : ℕ) (hx : bx < w) (hy : by < h) where
-  -- a block depends on a cross: three rows up and two down along six columns to each side, and six up and five down along three
-  pub cross : Agree w h bx by 6 6 3 2 f g → Agree w h bx by 3 3 6 5 f g → (k : ℕ) → blockWord s w h f bx by k ≡ blockWord s w h g bx by k
-  unfolding blockWord
-  cross e e′ k =
-      let tags-same : allTags s w h f bx by ≡ allTags s w h g bx by =
-      tags-agree s w h hx hy (of-picture s w h e) (of-picture s w h e′) in
-      let i : In w h bx by 0 0 0 0 bx by =
-      record { on-x = hx; on-y = hy; left = omega arith; right = omega arith; above = omega arith; below = omega arith } in
-      let t = allTags s w h g bx by in
-      ap (λ (q : G). near w h f bx by (s .offX q k) (s .offY q k)) tags-same
-      ∙ near-agrees 2 2 2 2 (narrower (omega arith) (omega arith) (omega arith) (omega arith) e) bx by i (s .offX t k) (s .offY t k)
-      (reach t k)
+    -- a block depends on a cross: three rows up and two down along six columns to each side, and six up and five down along three
+    pub cross : ((t : G) (k : ℕ) → T (reaches 2 2 2 2 (s .offX t k) (s .offY t k))) → {f g : ℕ → ℕ → P}
+        → Match w h cols rows to-x to-y bx by 6 6 3 2 f g → Match w h cols rows to-x to-y bx by 3 3 6 5 f g
+        → (k : ℕ) → blockWord s w h f bx by k ≡ blockWord s cols rows g (to-x bx) (to-y by) k
+    unfolding blockWord
+    cross reach {f} {g} e e′ k =
+        let tags-same : allTags s w h f bx by ≡ allTags s cols rows g (to-x bx) (to-y by) = tags-agree (of-picture e) (of-picture e′) in
+        let t = allTags s cols rows g (to-x bx) (to-y by) in
+        ap (λ (q : G). near w h f bx by (s .offX q k) (s .offY q k)) tags-same
+        ∙ near-agrees 2 2 2 2 (narrower (omega arith) (omega arith) (omega arith) (omega arith) e) bx by (here hx hy) (s .offX t k) (s .offY t k)
+        (reach t k)
