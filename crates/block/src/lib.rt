@@ -37,7 +37,7 @@ pub const TAGS: usize = 22 * 18 * 4;
 pub const BYTES: usize = TAGS + 16 * 12 * 4;
 
 // The rectangle that reaches a pixels round the k by r pixels from (x, y) on, as far as the picture goes.
-fn ring(w: u32, h: u32, x: u32, y: u32, k: u32, r: u32, a: u32) -> Grid
+pub fn ring(w: u32, h: u32, x: u32, y: u32, k: u32, r: u32, a: u32) -> Grid
     requires { ⌜ (Tile w h x y k r) × (a ≤ 5) ⌝ }
     ensures { λ g. ⌜ g ≡ ringOf w h x y k r a ⌝ }
 {

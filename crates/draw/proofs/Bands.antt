@@ -12,10 +12,10 @@ use Rattle.machine.specs.Screen.{Screen, Lawful, blockWords}
 use Rattle.machine.proofs.Lists.{firstFrom-length}
 use Rattle.marks.specs.Marks.{staleIn, chosen, Inside}
 use Rattle.marks.proofs.Counts.{chosen-split, none-wanted}
-use Rattle.draw.specs.Steps.{Draws, Swept}
-use Rattle.draw.proofs.Loops.{draws-same}
-use Rattle.draw.proofs.Swept.{swept-two, swept-as, swept-done}
-use Rattle.draw.proofs.Parts.{rows-run, run-rows, whole-before, last-before, before-end}
+use Rattle.tiles.specs.Steps.{Draws, Swept}
+use Rattle.tiles.proofs.Loops.{draws-same}
+use Rattle.tiles.proofs.Swept.{swept-two, swept-as, swept-done}
+use Rattle.tiles.proofs.Parts.{rows-run, run-rows, whole-before, last-before, before-end}
 
 -- ---- where the first n end
 

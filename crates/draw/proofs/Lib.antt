@@ -1,5 +1,1 @@
-pub mod Loops
-pub mod Swept
-pub mod Parts
 pub mod Bands
-pub mod Tagged

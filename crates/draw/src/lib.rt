@@ -1,19 +1,19 @@
 // The first n stale blocks drawn, in row order. Rows with nothing stale are passed over; from a row with a stale block on, as many rows
-// as a tile has are drawn as a band. What is drawn is said over a screen; how a block is drawn (tile.rt) is the three-times screen's.
-use block::ROWS;
+// as a tile has are drawn as a band. The screen is known by its number; how its blocks are drawn is the tiles'.
 use clarity::Clarity;
 use marks::count_stale;
 use marks::stale_end;
 use part::draw_part;
 use picture::place::least;
+use tiles::rows;
 ghost use Prim.Native.Nat.{_+_, _*_, _<_, _≤_};
 ghost use lib.ListN.{length};
 ghost use Rattle.machine.specs.Lent.{Lent};
-ghost use Rattle.three.specs.Three.{screen3};
-ghost use Rattle.draw.specs.Steps.{Draws};
+ghost use Rattle.screens.specs.Screens.{screenOf};
+ghost use Rattle.tiles.specs.Steps.{Draws};
+ghost use Rattle.tiles.specs.Tiles.{rowsOf};
 
 mod part;
-mod tile;
 
 // The first n stale blocks of rows y to bottom - 1 drawn, and no longer stale. Answers how many were stale.
 fn draw_band(
@@ -23,13 +23,14 @@ fn draw_band(
     w: u32,
     h: u32,
     clarity: Clarity,
+    scale: u32,
     y: u32,
     bottom: u32,
     n: u32,
 ) -> u32
-    requires { ⌜ ((y < bottom) × ((bottom ≤ h) × (bottom ≤ y + 12)))
-        × Lent screen3 w h (length (now picture)) (length (now output)) (length (now marks)) ⌝ }
-    ensures { λ r. ⌜ Draws screen3 w h clarity (y * w) (bottom * w) n (now (picture .entry)) (now (output .entry)) (now (marks .entry))
+    requires { ⌜ ((y < bottom) × ((bottom ≤ h) × (bottom ≤ y + rowsOf scale)))
+        × Lent (screenOf scale) w h (length (now picture)) (length (now output)) (length (now marks)) ⌝ }
+    ensures { λ r. ⌜ Draws (screenOf scale) w h clarity (y * w) (bottom * w) n (now (picture .entry)) (now (output .entry)) (now (marks .entry))
         (now (output .exit)) (now (marks .exit)) r ⌝ }
 {
     let width = w as usize;
@@ -37,13 +38,13 @@ fn draw_band(
     let hi = (bottom as usize) * width;
     let stale = count_stale(marks, lo, hi);
     if stale <= n {
-        draw_part(picture, output, marks, w, h, clarity, w, y, bottom);
+        draw_part(picture, output, marks, w, h, clarity, scale, w, y, bottom);
         return stale;
     }
     // The n-th of them ends the slice: the rows above it are drawn whole, and its own row as far as that.
     let end = stale_end(marks, lo, hi, n);
     let row = (end / width) as u32;
-    draw_part(picture, output, marks, w, h, clarity, w, y, row);
+    draw_part(picture, output, marks, w, h, clarity, scale, w, y, row);
     draw_part(
         picture,
         output,
@@ -51,6 +52,7 @@ fn draw_band(
         w,
         h,
         clarity,
+        scale,
         (end % width) as u32,
         row,
         row + 1,
@@ -67,13 +69,15 @@ pub fn draw_first(
     w: u32,
     h: u32,
     clarity: Clarity,
+    scale: u32,
     n: u32,
 ) -> u32
-    requires { ⌜ Lent screen3 w h (length (now picture)) (length (now output)) (length (now marks)) ⌝ }
-    ensures { λ r. ⌜ Draws screen3 w h clarity 0 (w * h) n (now (picture .entry)) (now (output .entry)) (now (marks .entry))
+    requires { ⌜ Lent (screenOf scale) w h (length (now picture)) (length (now output)) (length (now marks)) ⌝ }
+    ensures { λ r. ⌜ Draws (screenOf scale) w h clarity 0 (w * h) n (now (picture .entry)) (now (output .entry)) (now (marks .entry))
         (now (output .exit)) (now (marks .exit)) r ⌝ }
 {
     let width = w as usize;
+    let most = rows(scale);
     let mut stale: u32 = 0;
     let mut y: u32 = 0;
     while y < h && stale < n {
@@ -81,8 +85,19 @@ pub fn draw_first(
         if count_stale(marks, start, start + width) == 0 {
             y += 1;
         } else {
-            let bottom = least(y + ROWS, h);
-            stale += draw_band(picture, output, marks, w, h, clarity, y, bottom, n - stale);
+            let bottom = least(y + most, h);
+            stale += draw_band(
+                picture,
+                output,
+                marks,
+                w,
+                h,
+                clarity,
+                scale,
+                y,
+                bottom,
+                n - stale,
+            );
             y = bottom;
         }
     }

@@ -1,35 +1,24 @@
-// Sessions at the edges of docs/RULES.md: each line is what a call answered, or words of the picture after it.
+// Three-times sessions at the edges of docs/RULES.md: each line is what a call answered, or words of the picture after it.
+use calls::PaintedList;
 use clarity::Clarity;
 use header::Header;
 use header::Rectangle;
 use libc::STDOUT_FILENO;
+use lines::line;
+use lines::number;
 use paints::Paint;
 use paints::none;
-use session::PaintedList;
-use session::Session;
+use session3x::Session3x;
 ghost use Rattle.machine.specs.Calls.{PaintLists};
 ghost use Rattle.three.specs.Three.{screen3};
 
-fn number(n: u32) {
-    io::write_all(STDOUT_FILENO, b" ");
-    io::print_decimal(STDOUT_FILENO, n as u64);
-}
-
-fn line(name: &[u8], a: u32, b: u32, c: u32) {
-    io::write_all(STDOUT_FILENO, name);
-    number(a);
-    number(b);
-    number(c);
-    io::write_all(STDOUT_FILENO, b"\n");
-}
-
-fn refresh(session: Session, picture: &[u32], output: &mut [u32], marks: &mut [u8], n: u32) {
+fn refresh(session: Session3x, picture: &[u32], output: &mut [u32], marks: &mut [u8], n: u32) {
     let r = session.refresh(picture, output, marks, n);
     line(b"refresh", r.refusal, r.drawn, r.left);
 }
 
 fn paint(
-    session: Session,
+    session: Session3x,
     picture: &mut [u32],
     marks: &mut [u8],
     column: u32,
@@ -40,13 +29,13 @@ fn paint(
     line(b"paint", p.refusal, p.changed, p.stale);
 }
 
-fn show(session: Session, output: &[u32], marks: &[u8], bx: u32, by: u32) {
+fn show(session: Session3x, output: &[u32], marks: &[u8], bx: u32, by: u32) {
     let s = session.show(output, marks, bx, by);
     line(b"show", s.refusal, s.words[0], s.words[4]);
 }
 
 // The rectangle locked, and the session that later calls are lent: the one answered, or after a refusal the one before.
-fn lock(session: Session, left: u32, top: u32, width: u32, height: u32) -> Session {
+fn lock(session: Session3x, left: u32, top: u32, width: u32, height: u32) -> Session3x {
     let l = session.lock(Rectangle {
         left,
         top,
@@ -75,7 +64,7 @@ fn locks() {
     let mut picture = [1u32; 12];
     let mut output = [7u32; 108];
     let mut marks = [3u8; 12];
-    let o = Session::open(4, 3, Clarity::Standard, &picture, &mut output, &mut marks);
+    let o = Session3x::open(4, 3, Clarity::Standard, &picture, &mut output, &mut marks);
     refresh(o.session, &picture, &mut output, &mut marks, 12);
     // It touches the right and the bottom border: refused inside, unchanged at an equal word, taken to its left and above it.
     let s = lock(o.session, 2, 1, 2, 2);
@@ -94,13 +83,13 @@ fn locks() {
     paint(n, &mut picture, &mut marks, 3, 2, 5);
 }
 
-fn list(session: Session, picture: &mut [u32], marks: &mut [u8], a: [Paint; 64], n: u32) {
+fn list(session: Session3x, picture: &mut [u32], marks: &mut [u8], a: [Paint; 64], n: u32) {
     let p = session.paint_gathered(picture, marks, a, n as usize);
     line(b"list", p.refusal, p.stale, n);
 }
 
 // Four paints, lent as a slice. As every function that has a `&[Paint]`, it is proved by hand.
-fn lend(session: Session, picture: &mut [u32], marks: &mut [u8], a: [Paint; 4]) -> PaintedList
+fn lend(session: Session3x, picture: &mut [u32], marks: &mut [u8], a: [Paint; 4]) -> PaintedList
     ensures { λ r. ⌜ PaintLists screen3 (session .header) (now (picture .entry)) (now (marks .entry)) a
         (record {
           picture = now (picture .exit);
@@ -112,7 +101,7 @@ fn lend(session: Session, picture: &mut [u32], marks: &mut [u8], a: [Paint; 4]) 
     session.paint_list(picture, marks, &a)
 }
 
-fn four(session: Session, picture: &mut [u32], marks: &mut [u8], a: [Paint; 4]) {
+fn four(session: Session3x, picture: &mut [u32], marks: &mut [u8], a: [Paint; 4]) {
     let p = lend(session, picture, marks, a);
     line(b"list", p.refusal, p.stale, 4);
 }
@@ -122,7 +111,7 @@ fn item(column: u32, row: u32, word: u32) -> Paint {
 }
 
 // One position three times, with the word that was there at the end: its blocks are stale.
-fn repeated(session: Session, picture: &mut [u32; 12], marks: &mut [u8; 12]) {
+fn repeated(session: Session3x, picture: &mut [u32; 12], marks: &mut [u8; 12]) {
     let mut a = none();
     a[0] = item(0, 0, 5);
     a[1] = item(0, 0, 6);
@@ -132,7 +121,7 @@ fn repeated(session: Session, picture: &mut [u32; 12], marks: &mut [u8; 12]) {
 }
 
 // Through a slice: the last of four in the lock, and then the four taken.
-fn lent(session: Session, picture: &mut [u32; 12], marks: &mut [u8; 12]) {
+fn lent(session: Session3x, picture: &mut [u32; 12], marks: &mut [u8; 12]) {
     let b = [item(0, 0, 8), item(1, 0, 9), item(0, 0, 10), item(3, 2, 5)];
     four(session, picture, marks, b);
     line(b"words", picture[0], picture[1], picture[11]);
@@ -146,7 +135,7 @@ fn lists() {
     let mut picture = [1u32; 12];
     let mut output = [7u32; 108];
     let mut marks = [3u8; 12];
-    let o = Session::open(4, 3, Clarity::Standard, &picture, &mut output, &mut marks);
+    let o = Session3x::open(4, 3, Clarity::Standard, &picture, &mut output, &mut marks);
     let s = lock(o.session, 2, 1, 2, 2);
     refresh(s, &picture, &mut output, &mut marks, 12);
     let mut a = none();
@@ -176,7 +165,7 @@ fn wild() {
     let picture = [0u32; 4];
     let mut output = [7u32; 36];
     let mut marks = [0u8; 4];
-    let s = Session {
+    let s = Session3x {
         header: Header {
             w: 2,
             h: 2,
@@ -201,7 +190,7 @@ fn unlawful() {
     let mut output = [7u32; 36];
     let mut short = [7u32; 35];
     let mut marks = [1u8; 4];
-    let s = Session {
+    let s = Session3x {
         header: Header {
             w: 2,
             h: 2,
@@ -229,7 +218,7 @@ fn opened(clarity: Clarity) {
     let picture = [0u32; 1];
     let mut output = [7u32; 9];
     let mut marks = [3u8; 1];
-    let o = Session::open(1, 1, clarity, &picture, &mut output, &mut marks);
+    let o = Session3x::open(1, 1, clarity, &picture, &mut output, &mut marks);
     line(b"open", o.refusal, output[0], o.stale);
 }
 
@@ -262,7 +251,7 @@ fn drawn(clarity: Clarity) {
     picture[15] = 0x404040;
     let mut output = [7u32; 144];
     let mut marks = [3u8; 16];
-    let o = Session::open(4, 4, clarity, &picture, &mut output, &mut marks);
+    let o = Session3x::open(4, 4, clarity, &picture, &mut output, &mut marks);
     let s = lock(o.session, 0, 0, 1, 1);
     refresh(s, &picture, &mut output, &mut marks, 16);
     let b = s.show(&output, &marks, 2, 2);
@@ -274,7 +263,7 @@ fn too_wide() {
     let picture = [0u32; 4];
     let mut output = [7u32; 36];
     let mut marks = [3u8; 4];
-    let o = Session::open(
+    let o = Session3x::open(
         2049,
         1,
         Clarity::Standard,
@@ -287,7 +276,7 @@ fn too_wide() {
 
 // On a picture that is drawn: a paint outside, one of an equal word, and one of a word that differs in its top byte alone, which makes a
 // cross stale; shows of a block in it, of one beside it, and of one outside.
-fn beside(session: Session, picture: &mut [u32], output: &[u32], marks: &mut [u8]) {
+fn beside(session: Session3x, picture: &mut [u32], output: &[u32], marks: &mut [u8]) {
     paint(session, picture, marks, 32, 0, 1);
     paint(session, picture, marks, 10, 10, 1);
     paint(session, picture, marks, 10, 10, 16777217);
@@ -301,7 +290,7 @@ fn crosses() {
     let mut picture = [0u32; 1024];
     let mut output = [7u32; 9216];
     let mut marks = [0u8; 1024];
-    let o = Session::open(32, 32, Clarity::Standard, &picture, &mut output, &mut marks);
+    let o = Session3x::open(32, 32, Clarity::Standard, &picture, &mut output, &mut marks);
     let s = o.session;
     line(b"open", o.refusal, s.header.w, o.stale);
     show(s, &output, &marks, 0, 0);

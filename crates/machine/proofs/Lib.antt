@@ -5,6 +5,7 @@ pub mod Held
 pub mod Items
 pub mod Demand3
 pub mod Order
+pub mod Whole
 pub mod Ends
 pub mod PaintEnds
 pub mod Turns

@@ -125,7 +125,7 @@ module _ (S : Screen) (L : Lawful S) (w h : ℕ) (q : Clarity) (p : List ℕ) wh
       ∙ ap (λ (x : ℕ). cond (has bs b) (getD (drawn S w h q p b) k 0) x) (put-at S L w h q p c out b k (low .0) n l m)
       ∙ sym (or-cond (has bs b) (eqb b c) (getD (drawn S w h q p b) k 0) (getD out (spotOf S w h b k) 0))
 
-  putAll-past : (bs out : List ℕ) (i : ℕ) → Below (w * h) bs → blockWords S * (w * h) ≤ i → getD (putAll S w h q p bs out) i 0 ≡ getD out i 0
+  pub putAll-past : (bs out : List ℕ) (i : ℕ) → Below (w * h) bs → blockWords S * (w * h) ≤ i → getD (putAll S w h q p bs out) i 0 ≡ getD out i 0
   putAll-past [] out i low far = refl
   putAll-past (c ∷ bs) out i low far = putAll-past bs (putBlock S w h q p c out) i (low .1) far ∙ put-past S L w h q p c out i (low .0) far
 

@@ -1,10 +1,14 @@
 -- Where blocks and their words lie: a block's number against its column and row, and the output's index of a word, which is bounded, tells
 -- the block and the word, and meets every index. Assumes nothing.
 use mathlib.Core.Path.{_≡_, sym, ap, ap₂, _∙_, subst}
+use mathlib.Core.List.{List}
 use Prim.Native.Nat.{ℕ, zero, suc, _+_, _*_, _/_, _%_, _≤_, _<_}
 use native.Mathlib.Nat.{mod-lt, div-lt-iff-lt-mul, div-add-mod, div-add-mod', zero-mul, not-suc-le-zero, zero-lt-suc, mul-le-mul, mul-le-mul-right}
 use native.Mathlib.Omega.{arith}
 use lib.Arith.{digits-lt, digits-div, digits-mod}
+use lib.ListN.{take}
+use lib.Seq.{getD-take}
+use Rattle.picture.specs.Picture.{words}
 
 -- ---- two digits
 
@@ -34,6 +38,10 @@ block-lt {w} {h} {column} {row} c r = omega (arith, digits-lt r c)
 -- row y of the picture's marks ends within them
 pub row-end : (w h y : ℕ) → y < h → y * w + w ≤ w * h
 row-end w h y l = omega (arith, mul-le-mul-right w l)
+
+-- a picture's words stand in the front of a buffer
+pub front : {w h x y : ℕ} (p : List ℕ) → x < w → y < h → words w p x y ≡ words w (take (w * h) p) x y
+front {w} {h} {x} {y} p l m = sym (getD-take (w * h) p (y * w + x) 0 (block-lt l m))
 
 -- the blocks of a picture of at most 2,048 a side are a small number
 pub area : (w h : ℕ) → w ≤ 2048 → h ≤ 2048 → w * h ≤ 4194304

@@ -1,4 +1,4 @@
--- The marks of a run, and of a box run by run. Assumes nothing.
+-- The marks of a run, and of a box run by run; a block near a pixel lies in the box round it. Assumes nothing.
 use mathlib.Core.Path.{_≡_, refl, sym, ap, ap₂, _∙_, subst}
 use mathlib.Core.Bool.{Bool, true, false, cond, _&&_, _||_, false≢true, and-eq-true-iff, or-true}
 use mathlib.Core.List.{List, _++_}
@@ -10,6 +10,7 @@ use lib.Dec.{ltb, leb}
 use lib.ListN.{length, getD, set, drop, replicate, length-set, length-append, length-drop, length-replicate, getD-replicate, List·getD-append}
 use lib.Seq.{ext-getD, getD-set-same, getD-set-other, getD-append-add, getD-drop}
 use borrow.Author.Tests.{le-leb, lt-ltb, ltb-true, leb-true}
+use Rattle.picture.specs.Local.{In}
 use Rattle.machine.specs.Lists.{stamp}
 use Rattle.marks.specs.Marks.{run, between, boxed}
 use Rattle.machine.proofs.Places.{block-lt, row-lt}
@@ -83,6 +84,9 @@ run-end i hi m a = stamp-none (run i hi) 1 m (λ k h. bool-same (run i hi k) fal
 
 -- ---- a box
 
+between-in : (lo hi x : ℕ) → lo ≤ x → x ≤ hi → between lo hi x ≡ true
+between-in lo hi x a b = both (le-leb lo x a) (le-leb x hi b)
+
 record Named (w h column row side up down b : ℕ) : Type 0 where
   in-picture : b < w * h
   left : column - side ≤ b % w
@@ -108,8 +112,8 @@ module _ (w h column row side up down : ℕ) where
   boxed-in : (b : ℕ) → Named w h column row side up down b → boxed w h column row side up down b ≡ true
   boxed-in b n =
       both (lt-ltb b (w * h) (n .in-picture))
-      (both (both (le-leb (column - side) (b % w) (n .left)) (le-leb (b % w) (column + side) (n .right)))
-      (both (le-leb (row - up) (b / w) (n .above)) (le-leb (b / w) (row + down) (n .below))))
+      (both (between-in (column - side) (column + side) (b % w) (n .left) (n .right))
+      (between-in (row - up) (row + down) (b / w) (n .above) (n .below)))
 
   -- the blocks of the box from row y on
   abbrev pub from : ℕ → ℕ → Bool
@@ -175,6 +179,12 @@ module _ (w h column row side up down : ℕ) where
                 above = omega arith;
                 below = omega arith;
               })
+
+-- a pixel at most s columns beside a block, d rows above and u below it: the block lies in that box round the pixel
+pub in-box : (w h s u d x y bx by : ℕ) → In w h bx by s s d u x y → (between (x - s) (x + s) bx && between (y - u) (y + d) by) ≡ true
+in-box w h s u d x y bx by i =
+    both (between-in (x - s) (x + s) bx (omega (arith, i .right)) (omega (arith, i .left)))
+    (between-in (y - u) (y + d) by (omega (arith, i .below)) (omega (arith, i .above)))
 
 -- a run from the start
 pub run-start : (n : ℕ) (m : List ℕ) → n ≤ length m → stamp (run 0 n) 1 m ≡ replicate n 1 ++ drop n m

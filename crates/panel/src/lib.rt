@@ -4,4 +4,5 @@ mod numbers;
 mod pages;
 mod pictures;
 mod sessions;
+mod sessions9;
 mod version;

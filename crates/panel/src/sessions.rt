@@ -1,66 +1,12 @@
-// The calls of a session. The header is an array of eight numbers: w, h, left, top, width and height of the lock, and kind and pattern of
-// the setting of clarity. A paint of a list is one of three: column, row and word.
-use clarity::bits_of;
-use clarity::clarity_of;
-use clarity::kind_of;
-use clarity::setting_of;
-use header::Header;
-use header::Rectangle;
-use paints::Paint;
-use paints::few;
-use paints::none;
-use session::Session;
+// The calls of the three-times session. `face` says how header and items are handed over.
+use screens::THREE;
 ghost use mathlib.Core.Path.{_≡_};
 ghost use mathlib.Core.List.{map};
-ghost use Prim.Native.Nat.{_≤_};
-ghost use lib.Dec.{T};
-ghost use lib.ListN.{length};
-ghost use Rattle.clarity.specs.Clarity.{lawfulOf, settingOf};
-ghost use Rattle.paints.specs.Paints.{gathered};
+ghost use Rattle.clarity.specs.Clarity.{settingOf};
 ghost use Rattle.machine.specs.Calls.{Opens, Paints, PaintLists, Refreshes, Shows, Locks};
 ghost use Rattle.three.specs.Three.{screen3};
-ghost use Rattle.panel.specs.Header.{headerOf, numbersOf};
-ghost use Rattle.panel.specs.Item.{paintOf};
-
-// The session that a header's numbers stand for.
-fn session_of(numbers: &[u32; 8]) -> Session
-    ensures { λ r. ⌜ r .header ≡ headerOf (now (numbers .entry)) ⌝ }
-{
-    let clarity = clarity_of(numbers[6], numbers[7]);
-    Session {
-        header: Header {
-            w: numbers[0],
-            h: numbers[1],
-            lock: Rectangle {
-                left: numbers[2],
-                top: numbers[3],
-                width: numbers[4],
-                height: numbers[5],
-            },
-            clarity,
-        },
-    }
-}
-
-// The numbers of a session's header, which stand for it again.
-fn numbers_of(session: Session) -> [u32; 8]
-    requires { ⌜ T (lawfulOf (session .header .clarity)) ⌝ }
-    ensures { λ r. ⌜ (r ≡ numbersOf (session .header)) × (headerOf r ≡ session .header) ⌝ }
-{
-    let header = session.header;
-    let lock = header.lock;
-    let clarity = header.clarity;
-    [
-        header.w,
-        header.h,
-        lock.left,
-        lock.top,
-        lock.width,
-        lock.height,
-        kind_of(clarity),
-        bits_of(clarity),
-    ]
-}
+ghost use Rattle.face.specs.Header.{headerOf, numbersOf};
+ghost use Rattle.face.specs.Item.{paintOf};
 
 // A session opened on a picture, at the setting that a kind and a single stand for; its header and its stale count.
 #[no_mangle]
@@ -84,11 +30,18 @@ pub extern "C" fn panel_open(
           stale = now (stale .exit);
         }) × (now (header .exit) ≡ numbersOf (headerOf (now (header .exit)))) ⌝ }
 {
-    let setting = setting_of(clarity, threshold);
-    let opened = Session::open(w, h, setting, picture, output, marks);
-    *header = numbers_of(opened.session);
-    *stale = opened.stale;
-    opened.refusal
+    face::open(
+        THREE,
+        w,
+        h,
+        clarity,
+        threshold,
+        picture,
+        output,
+        marks,
+        header,
+        stale,
+    )
 }
 
 // One word of the picture painted.
@@ -113,30 +66,17 @@ pub extern "C" fn panel_paint(
           stale = now (stale .exit);
         }) ⌝ }
 {
-    let session = session_of(header);
-    let painted = session.paint(picture, marks, column, row, word);
-    *changed = painted.changed;
-    *stale = painted.stale;
-    painted.refusal
-}
-
-// The paints that the first m items of a list stand for, by value.
-fn paints_of(items: &[[u32; 3]], m: usize) -> [Paint; 64]
-    requires { ⌜ (m ≤ length (now items)) × (m ≤ 64) ⌝ }
-    ensures { λ r. ⌜ r ≡ gathered (map paintOf (now (items .entry))) m ⌝ }
-{
-    let mut a = none();
-    let mut i: usize = 0;
-    while i < m {
-        let item = items[i];
-        a[i] = Paint {
-            column: item[0],
-            row: item[1],
-            word: item[2],
-        };
-        i += 1;
-    }
-    a
+    face::paint(
+        THREE,
+        header,
+        picture,
+        marks,
+        column,
+        row,
+        word,
+        changed,
+        stale,
+    )
 }
 
 // The paints of a list, all or none.
@@ -157,12 +97,7 @@ pub extern "C" fn panel_paint_list(
           stale = now (stale .exit);
         }) ⌝ }
 {
-    let session = session_of(header);
-    let n = items.len();
-    let a = paints_of(items, few(n));
-    let painted = session.paint_gathered(picture, marks, a, n);
-    *stale = painted.stale;
-    painted.refusal
+    face::paint_list(THREE, header, picture, marks, items, stale)
 }
 
 // The first n stale blocks drawn.
@@ -186,14 +121,10 @@ pub extern "C" fn panel_refresh(
           left = now (left .exit);
         }) ⌝ }
 {
-    let session = session_of(header);
-    let refreshed = session.refresh(picture, output, marks, n);
-    *drawn = refreshed.drawn;
-    *left = refreshed.left;
-    refreshed.refusal
+    face::refresh(THREE, header, picture, output, marks, n, drawn, left)
 }
 
-// The nine words of a block.
+// The words of a block.
 #[no_mangle]
 pub extern "C" fn panel_show(
     header: &[u32; 8],
@@ -207,11 +138,10 @@ pub extern "C" fn panel_show(
         (now (output .entry)) (now (marks .entry)) bx by
         (record { refusal = r; words = now (words .exit) }) ⌝ }
 {
-    let session = session_of(header);
-    let shown = session.show(output, marks, bx, by);
-    let block = shown.words;
+    let mut block = [0u32; 9];
+    let refusal = face::show(THREE, header, output, marks, bx, by, &mut block);
     *words = block;
-    shown.refusal
+    refusal
 }
 
 // The header with another rectangle locked.
@@ -228,13 +158,5 @@ pub extern "C" fn panel_lock(
         (record { refusal = r; header = headerOf (now (locked .exit)) })
         × (now (locked .exit) ≡ numbersOf (headerOf (now (locked .exit)))) ⌝ }
 {
-    let session = session_of(header);
-    let answer = session.lock(Rectangle {
-        left,
-        top,
-        width,
-        height,
-    });
-    *locked = numbers_of(answer.session);
-    answer.refusal
+    face::lock(THREE, header, left, top, width, height, locked)
 }

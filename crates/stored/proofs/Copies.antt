@@ -16,8 +16,9 @@ use Rattle.tag.specs.declared.Tags.{Tags}
 use Rattle.grid.proofs.Moves.{stay}
 use Rattle.grid.proofs.Reading.{near-at}
 use Rattle.block.specs.Block.{corner, mid, tagWord, blockFrom}
-use Rattle.stored.specs.Store.{third, putBlock, putRow, thrice, thriceBelow, Copies, Plain, Copied, storedUnless}
-use Rattle.stored.specs.StoreLaws.{Rowed, row-long}
+use Rattle.stored.specs.Store.{putBlock, putRow, thrice, thriceBelow, Copies, Plain, Copied, storedUnless}
+use Rattle.stored.specs.StoreLaws.{Rowed}
+use Rattle.stored.specs.Placed.{row-off}
 
 -- ---- a run of a picture's words, three times each
 
@@ -88,31 +89,6 @@ below-long ow at s l room =
     length-put (at + 2 * ow) s l₂ (omega arith) ∙ n₂ ∙ n₁
 
 -- ---- a block beside others
-
--- the place p is none of the block's at s
-record Away (ow s p : ℕ) : Type 0 where
-  first : s ≤ p → s + 3 ≤ p
-  second : s + ow ≤ p → s + ow + 3 ≤ p
-  third : s + 2 * ow ≤ p → s + 2 * ow + 3 ≤ p
-
-block-off : (ow s : ℕ) (b l : List ℕ) (p : ℕ) → s + 2 * ow + 3 ≤ length l → Away ow s p → getD (putBlock ow s b l) p 0 ≡ getD l p 0
-unfolding putBlock
-block-off ow s b l p room a =
-    let l₁ = put s (third 0 b) l in
-    let n₁ : length l₁ ≡ length l = length-put s (third 0 b) l (omega arith) in
-    let l₂ = put (s + ow) (third 1 b) l₁ in
-    let n₂ : length l₂ ≡ length l₁ = length-put (s + ow) (third 1 b) l₁ (omega arith) in
-    getD-off (s + 2 * ow) (third 2 b) l₂ p 0 (omega arith) (a .third)
-    ∙ getD-off (s + ow) (third 1 b) l₁ p 0 (omega arith) (a .second)
-    ∙ getD-off s (third 0 b) l p 0 (omega arith) (a .first)
-
-row-off : (ow at : ℕ) (blocks : ℕ → List ℕ) (l : List ℕ) (p n : ℕ) → at + 2 * ow + n * 3 ≤ length l
-    → ((m : ℕ) → m < n → Away ow (at + m * 3) p) → getD (putRow ow at n blocks l) p 0 ≡ getD l p 0
-unfolding putRow
-row-off ow at blocks l p zero room a = refl
-row-off ow at blocks l p (suc n) room a =
-    block-off ow (at + n * 3) (blocks n) (putRow ow at n blocks l) p (omega (arith, row-long ow at blocks l n (omega arith))) (a n (omega arith))
-    ∙ row-off ow at blocks l p n (omega arith) (λ m h. a m (omega arith))
 
 -- the blocks before it leave block n as it is
 pub plain-kept : (ow at n c : ℕ) (blocks : ℕ → List ℕ) (l : List ℕ) → n * 3 + 3 ≤ ow → at + 2 * ow + n * 3 ≤ length l

@@ -1,3 +1,4 @@
 pub mod Store
 pub mod StoreLaws
+pub mod Placed
 pub mod Strips

@@ -60,12 +60,15 @@ pub record RowRoom (w h x y k from p t ow at o : ℕ) : Type 0 where
   pub apart : k * 3 ≤ ow
   pub words : at + 2 * ow + k * 3 ≤ o
 
--- there is room for k by r blocks from (x, y) on: the last of the output's rows may end with them. Rows are of at most 65,536 words, far
--- more than the 3 * 2,048 of any output, so that no place wraps.
-pub record RectRoom (w h x y k r p ow at o : ℕ) : Type 0 where
+-- there is room for k by r blocks from (x, y) on: the last of the output's rows may end with them, and so may the tags, which of a row start
+-- `stride` bytes after those of the row above it. Neither rows nor strides are of more than 65,536, far more than the 9 * 682 words and the
+-- 4 * 2,048 bytes of any picture, so that no place wraps.
+pub record RectRoom (w h x y k r from stride p t ow at o : ℕ) : Type 0 where
   pub along : x + k ≤ w
   pub down : y + r ≤ h
   pub picture : w * h ≤ p
+  pub tags : from + r * stride + k * 4 ≤ t + stride
   pub apart : k * 3 ≤ ow
   pub words : at + r * (3 * ow) + k * 3 ≤ o + ow
   pub wide : ow ≤ 65536
+  pub long : stride ≤ 65536

@@ -11,7 +11,7 @@ use Rattle.stored.specs.Store.{third, putBlock, putRow, putRect}
 
 -- ---- how long the output is
 
-block-long : (ow at : ℕ) (b l : List ℕ) → at + 2 * ow + 3 ≤ length l → length (putBlock ow at b l) ≡ length l
+pub block-long : (ow at : ℕ) (b l : List ℕ) → at + 2 * ow + 3 ≤ length l → length (putBlock ow at b l) ≡ length l
 unfolding putBlock
 block-long ow at b l room =
     let l₁ = put at (third 0 b) l in
@@ -28,7 +28,7 @@ row-long ow at blocks l (suc n) room =
     let ih = row-long ow at blocks l n (omega arith) in
     block-long ow (at + n * 3) (blocks n) (putRow ow at n blocks l) (omega arith) ∙ ih
 
-rect-long : (ow at k : ℕ) (blocks : ℕ → ℕ → List ℕ) (l : List ℕ) (n : ℕ) → at + n * (3 * ow) + k * 3 ≤ length l + ow
+pub rect-long : (ow at k : ℕ) (blocks : ℕ → ℕ → List ℕ) (l : List ℕ) (n : ℕ) → at + n * (3 * ow) + k * 3 ≤ length l + ow
     → length (putRect ow at k n blocks l) ≡ length l
 unfolding putRect
 rect-long ow at k blocks l zero room = refl

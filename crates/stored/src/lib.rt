@@ -149,7 +149,8 @@ pub fn put_row(
     put_tagged(picture, w, h, x, y, k, tags, from, out, ow, at);
 }
 
-// The k by r blocks from (x, y) on, row after row. Their tags stand at the front.
+// The k by r blocks from (x, y) on, row after row. The tags of a row start `stride` bytes after those of the row above it, the first row's
+// at byte `from`.
 pub fn put_rect(
     picture: &[u32],
     w: u32,
@@ -159,22 +160,23 @@ pub fn put_rect(
     k: u32,
     r: u32,
     tags: &[u8],
+    from: usize,
+    stride: usize,
     out: &mut [u32],
     ow: usize,
     at: usize,
 )
-    requires { ⌜ (RectRoom w h x y k r (length (now picture)) ow at (length (now out))) × (r * (k * 4) ≤ length (now tags)) ⌝ }
+    requires { ⌜ RectRoom w h x y k r from stride (length (now picture)) (length (now tags)) ow at (length (now out)) ⌝ }
     ensures { λ _. ⌜ now (out .exit) ≡ putRect ow at k r (λ i j. blockFrom w h (words w (now (picture .entry))) (x + i) (y + j)
-        (tagsAt (now (tags .entry)) (j * (k * 4) + i * 4))) (now (out .entry)) ⌝ }
+        (tagsAt (now (tags .entry)) (from + j * stride + i * 4))) (now (out .entry)) ⌝ }
 {
-    let row = 4 * (k as usize);
     let rows = 3 * ow;
     let mut j: u32 = 0;
-    let mut from: usize = 0;
+    let mut f = from;
     let mut o = at;
     while j < r {
-        put_row(picture, w, h, x, y + j, k, tags, from, out, ow, o);
-        from += row;
+        put_row(picture, w, h, x, y + j, k, tags, f, out, ow, o);
+        f += stride;
         o += rows;
         j += 1;
     }

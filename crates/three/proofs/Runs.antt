@@ -1,4 +1,4 @@
--- Blocks of a row stored side by side, by their tags, are these blocks drawn one after the other. Assumes nothing.
+-- Blocks of a row stored side by side are these blocks drawn one after the other. Assumes nothing.
 use mathlib.Core.Path.{_≡_, refl, sym, ap, ap₂, _∙_}
 use mathlib.Core.List.{List, [], _∷_}
 use Prim.Native.Nat.{ℕ, zero, suc, _+_, _*_, _≤_, _<_}
@@ -7,8 +7,7 @@ use lib.Arith.{digits-div, digits-mod}
 use lib.ListN.{length, take}
 use Rattle.picture.specs.Picture.{words}
 use Rattle.clarity.specs.declared.Clarity.{Clarity}
-use Rattle.tag.specs.declared.Tags.{Tags}
-use Rattle.block.specs.Block.{pictureTags, blockFrom, blockOf}
+use Rattle.block.specs.Block.{blockOf}
 use Rattle.block.specs.Locality.{block-length}
 use Rattle.stored.specs.Store as store
 use Rattle.stored.specs.Store.{putRow}
@@ -47,13 +46,11 @@ module _ (q : Clarity) (w h : ℕ) (p : List ℕ) where
       ∙ sym (putAll-two screen3 w h q p (blocksFrom b n) ((b + n) ∷ []) out)
       ∙ ap (λ (bs : List ℕ). putAll screen3 w h q p bs out) (sym (table-snoc n (λ j. b + j)))
 
--- n blocks from (x, y) on, stored by the tags t of their pixels from a buffer whose front is the picture
-pub run-drawn : (q : Clarity) (w h x y n : ℕ) (p out : List ℕ) (t : ℕ → Tags) → x + n ≤ w → y < h → 9 * (w * h) ≤ length out
-    → ((i : ℕ) → i < n → t i ≡ pictureTags q w h (words w p) (x + i) y)
-    → putRow (3 * w) (place screen3 w x y 0) n (λ i. blockFrom w h (words w p) (x + i) y (t i)) out
+-- n blocks from (x, y) on, drawn from a buffer whose front is the picture
+pub run-drawn : (q : Clarity) (w h x y n : ℕ) (p out : List ℕ) → x + n ≤ w → y < h → 9 * (w * h) ≤ length out
+    → putRow (3 * w) (place screen3 w x y 0) n (λ i. blockOf q w h (words w p) (x + i) y) out
     ≡ putAll screen3 w h q (take (w * h) p) (blocksFrom (y * w + x) n) out
-unfolding blockOf
-run-drawn q w h x y n p out t along down long e =
-    row-same (3 * w) (place screen3 w x y 0) n (λ i. blockFrom w h (words w p) (x + i) y (t i)) (λ i. draw3 q w h (take (w * h) p) (x + i) y) out
-    (λ i l. ap (blockFrom w h (words w p) (x + i) y) (e i l) ∙ drawn-from q w h p (x + i) y (omega arith) down)
+run-drawn q w h x y n p out along down long =
+    row-same (3 * w) (place screen3 w x y 0) n (λ i. draw3 q w h p (x + i) y) (λ i. draw3 q w h (take (w * h) p) (x + i) y) out
+    (λ i l. drawn-from q w h p (x + i) y (omega arith) down)
     ∙ row-drawn q w h (take (w * h) p) x y n out along down long

@@ -1,4 +1,4 @@
--- A block's nine words, in three rows of three: where they lie, stored and read. Assumes nothing.
+-- A block's nine words, in three rows of three: where they lie, and stored. Assumes nothing.
 use mathlib.Core.Path.{_≡_, refl, sym, ap, _∙_}
 use mathlib.Core.List.{List, [], _∷_}
 use Prim.Native.Nat.{ℕ, zero, suc, _+_, _*_, _≤_, _<_}
@@ -10,10 +10,9 @@ use Rattle.stored.specs.Store.{third}
 use Rattle.stored.specs.Store as store
 use Rattle.machine.specs.Lists.{table}
 use Rattle.machine.specs.Screen.{place}
-use Rattle.machine.specs.Machine.{putWords, blockAt}
+use Rattle.machine.specs.Machine.{putWords}
 use Rattle.machine.proofs.Places.{spot-lt}
 use Rattle.three.specs.Three.{screen3}
-use Rattle.three.specs.Rows.{rowsAt}
 
 -- word c of row r lies c words after the row's first, and that r output rows after the block's first
 spot : (w bx by r c b : ℕ) → b ≡ place screen3 w bx by 0 + r * (3 * w) → b + c ≡ (3 * by + r) * (3 * w) + (3 * bx + c)
@@ -23,7 +22,7 @@ spot-first : (w bx by r b : ℕ) → b ≡ place screen3 w bx by 0 + r * (3 * w)
 spot-first w bx by r b e = omega (arith, spot w bx by r 0 b e)
 
 -- the block's last word lies within the output
-pub room : (w h bx by : ℕ) → bx < w → by < h → place screen3 w bx by 0 + 2 * (3 * w) + 3 ≤ 9 * (w * h)
+room : (w h bx by : ℕ) → bx < w → by < h → place screen3 w bx by 0 + 2 * (3 * w) + 3 ≤ 9 * (w * h)
 room w h bx by x y =
     omega (arith, spot-lt 3 w (omega arith) h bx by 8 x y (omega arith), spot w bx by 2 2 (place screen3 w bx by 0 + 2 * (3 * w)) refl)
 
@@ -46,12 +45,6 @@ module _ (w h bx by a b c : ℕ) (ea : a ≡ place screen3 w bx by 0 + 0 * (3 * 
       (spot w bx by 1 2 b eb i) (getD ws 5 0)) (spot-first w bx by 2 c ec i) (getD ws 6 0)) (spot w bx by 2 1 c ec i) (getD ws 7 0))
       (spot w bx by 2 2 c ec i) (getD ws 8 0))
       ∙ ap (λ (l : List ℕ). putWords screen3 w h bx by 0 l out) (sym (table-of 9 ws l))
-
-  pub read : (out : List ℕ) → rowsAt a b c out ≡ blockAt screen3 w h bx by out
-  read out = λ i.
-      getD out (spot-first w bx by 0 a ea i) 0 ∷ getD out (spot w bx by 0 1 a ea i) 0 ∷ getD out (spot w bx by 0 2 a ea i) 0
-      ∷ getD out (spot-first w bx by 1 b eb i) 0 ∷ getD out (spot w bx by 1 1 b eb i) 0 ∷ getD out (spot w bx by 1 2 b eb i) 0
-      ∷ getD out (spot-first w bx by 2 c ec i) 0 ∷ getD out (spot w bx by 2 1 c ec i) 0 ∷ getD out (spot w bx by 2 2 c ec i) 0 ∷ []
 
 -- a block's three rows stored are its nine words put one by one
 pub block-put : (w h bx by : ℕ) (ws out : List ℕ) → length ws ≡ 9 → bx < w → by < h → 9 * (w * h) ≤ length out

@@ -1,3 +1,2 @@
 pub mod Three
-pub mod Rows
 pub mod Examples

@@ -2,7 +2,7 @@
 use mathlib.Core.Path.{_≡_, refl, sym, _∙_, ap}
 use mathlib.Core.List.{List, _++_}
 use Prim.Native.Nat.{ℕ, zero, suc, _+_, _*_, _≤_, _<_}
-use native.Mathlib.Nat.{mul-assoc, mul-comm, mul-left-comm, add-mul, suc-mul, add-zero}
+use native.Mathlib.Nat.{mul-assoc, mul-comm, mul-left-comm, add-mul, suc-mul}
 use native.Mathlib.Omega.{arith}
 use lib.ListN.{length, getD, length-append}
 use Rattle.picture.specs.Fill.{flat, put, put-put, put-nil, length-put, length-flat, getD-flat, getD-flat-below, within}
@@ -14,6 +14,7 @@ use Rattle.metric.specs.Metric.{metrics}
 use Rattle.weight.specs.Weight.{cornerWeightOf, weightsOf, weights}
 use Rattle.block.specs.Block.{pictureJunctions, pictureTags, blockOf}
 use Rattle.stored.specs.Store.{third, putRow, putRect}
+use Rattle.stored.specs.Placed.{third-word}
 use Rattle.stored.specs.Strips.{strip, strip-length, row-strips}
 use Rattle.whole.specs.Whole.{allOf, rowsOf, scaleOf, singlesOf, bytesOf}
 
@@ -71,13 +72,6 @@ pub all-length : {R E : Type 0} (elements : R → List E) → ((r : R) → lengt
 unfolding allOf
 all-length elements four w h f =
     length-flat (w * 4) (λ y. flat w (λ x. elements (f x y))) (λ y. length-flat 4 (λ x. elements (f x y)) (λ x. four (f x y)) w) h
-
--- a word of a block's row
-third-word : (r c : ℕ) (b : List ℕ) → c < 3 → getD (third r b) c 0 ≡ getD b (3 * r + c) 0
-third-word r zero b h = ap (λ (n : ℕ). getD b n 0) (sym (add-zero (3 * r)))
-third-word r (suc zero) b h = refl
-third-word r (suc (suc zero)) b h = refl
-third-word r (suc (suc (suc c))) b h = absurd (omega arith)
 
 places : (by r w : ℕ) → (3 * by + r) * (3 * w) ≡ by * (9 * w) + r * (w * 3)
 places by r w = simp (add-mul, mul-assoc, mul-left-comm, mul-comm) (omega arith)

@@ -91,12 +91,12 @@ module _ (q : Clarity) (w h : ℕ) (p o o′ : List ℕ) (s s′ : List Float) (
       record { left = omega arith; right = omega arith; above = omega arith; below = omega arith } in
       ap (tagsAt held-tags) i ∙ tags-kept (gridOf w h) w h x y 0 0 0 0 s (pictureTags q w h f) held-tags held x y o
 
-  pub enlarged : o′ ≡ putRect (3 * w) 0 w h (λ i j. blockFrom w h f (0 + i) (0 + j) (tagsAt held-tags (j * (w * 4) + i * 4))) o
+  pub enlarged : o′ ≡ putRect (3 * w) 0 w h (λ i j. blockFrom w h f (0 + i) (0 + j) (tagsAt held-tags (0 + j * (w * 4) + i * 4))) o
       → Enlarged q w h p o s b o′ s′ b′
   unfolding scaleOf singlesOf bytesOf blockOf
   enlarged e = record {
     output-is = e
-        ∙ rect-same (3 * w) 0 w h _ _ o (λ x y hx hy. rw (zero-add x, zero-add y, row-tags x y hx hy))
+        ∙ rect-same (3 * w) 0 w h _ _ o (λ x y hx hy. rw (zero-add x, zero-add y, zero-add (y * (w * 4)), row-tags x y hx hy))
         ∙ rect-filled w h (blockOf q w h f) o (omega (arith, fits .output));
     singles-are = joined w h nan ofMetric ofWeights (metrics w h f) (weights q w h (metrics w h f)) (λ r. refl) (λ r. refl) s s′
         (fits .singles) (k .singles-are);

@@ -37,7 +37,22 @@ fn enlarge(
     let cut = (h as usize) * ((w as usize) * 4);
     passes(picture, w, h, clarity, g, g, g, g, singles, cut, bytes, cut);
     let tags = &bytes[cut..];
-    put_rect(picture, w, h, 0, 0, w, h, tags, output, 3 * (w as usize), 0);
+    let stride = (w as usize) * 4;
+    put_rect(
+        picture,
+        w,
+        h,
+        0,
+        0,
+        w,
+        h,
+        tags,
+        0,
+        stride,
+        output,
+        3 * (w as usize),
+        0,
+    );
 }
 
 // ScaleFX three-times. The answer is 0, or the number of the refusal, which leaves every buffer as it was.

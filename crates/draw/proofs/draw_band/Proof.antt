@@ -5,9 +5,9 @@ use native.Mathlib.Omega.{arith}
 use borrow.Author.Needs.{needs}
 use lib.ListN.{length}
 use Rattle.machine.proofs.Places.{area}
-use Rattle.three.specs.Three.{screen3}
-use Rattle.three.proofs.Three.{lawful3}
-use Rattle.draw.proofs.Loops.{lent-still, draws-output-length, draws-marks-length}
+use Rattle.screens.specs.Screens.{screenOf}
+use Rattle.screens.proofs.Screens.{lawful-of, within}
+use Rattle.tiles.proofs.Loops.{lent-still, draws-output-length, draws-marks-length}
 use Rattle.draw.proofs.Bands.{End, end-of, band-all, band-part}
 use Rattle.draw.proofs.draw_band.Statement.{statement}
 use Rattle.draw.proofs.draw_band.Tie as tie
@@ -33,7 +33,7 @@ band-of s =
       up = mul-le-mul-right (a .w) y;
       top = top;
       marked = omega (arith, top, l .for-marks);
-      few = omega (arith, top, area (a .w) (a .h) (l .wide) (l .high));
+      few = omega (arith, top, area (a .w) (a .h) (within (a .scale) (l .wide)) (within (a .scale) (l .high)));
     }
 
 -- where the last block drawn of a slice lies
@@ -71,7 +71,7 @@ returns c =
     let a = s .args in
     let b = band-of s in
     let counted = c .before .before .before .before .before .before .before .before .count-stale .ensures in
-    band-all screen3 lawful3 (a .w) (a .h) (a .clarity) (s .pre .1 .for-output) (b .up) (b .top) (b .marked) counted
+    band-all (screenOf (a .scale)) (lawful-of (a .scale)) (a .w) (a .h) (a .clarity) (s .pre .1 .for-output) (b .up) (b .top) (b .marked) counted
     (c .before .before .before .before .before .before .before .if1 .taken) (c .before .before .before .before .draw-part .ensures)
 
 stale-end-requires : tie.Need-stale-end-requires
@@ -116,7 +116,7 @@ draw-part-requires-3 c κs =
     let d = c .before .before .before .before .before .before .draw-part2 .ensures .draws in (
       (omega (arith, e .column), (omega arith, (omega (arith, e .to, i), omega arith))),
       lent-still (s .pre .1)
-          (draws-output-length screen3 (a .w) (a .h) (a .clarity) (a .picture .now) d) (draws-marks-length screen3 (a .w) (a .h) (a .clarity) (a .picture .now) d),
+          (draws-output-length (screenOf (a .scale)) (a .w) (a .h) (a .clarity) (a .picture .now) d) (draws-marks-length (screenOf (a .scale)) (a .w) (a .h) (a .clarity) (a .picture .now) d),
     )
 
 same-length-3 : tie.Need-same-length-3
@@ -133,7 +133,7 @@ returns-2 c =
     let q = c .before .before .before .before .before .before .before .before .before .before .before .before .before .before in
     let e = q .stale-end .ensures in
     let above = c .before .before .before .before .before .before .before .before .before .before .before .draw-part2 .ensures in
-    band-part screen3 lawful3 (a .w) (a .h) (a .clarity) (s .pre .1 .for-output) (b .up) (b .top) (b .marked) (q .before .before .before .count-stale .ensures)
+    band-part (screenOf (a .scale)) (lawful-of (a .scale)) (a .w) (a .h) (a .clarity) (s .pre .1 .for-output) (b .up) (b .top) (b .marked) (q .before .before .before .count-stale .ensures)
     (q .stale-end .result) (end-at q) (e .0) (e .1 .0) (e .1 .1) above (c .before .before .before .before .draw-part3 .ensures)
 
 pub draw-band-spec : {M : Type 1} → statement M

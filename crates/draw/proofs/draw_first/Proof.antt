@@ -13,18 +13,20 @@ use Rattle.picture.specs.Fill.{add-one-mul}
 use Rattle.machine.proofs.Places.{area, row-end}
 use Rattle.marks.specs.Marks.{staleIn, chosen}
 use Rattle.marks.proofs.Counts.{count-none, count-run-le, none-wanted, none-left, none-stale}
-use Rattle.three.specs.Three.{screen3}
-use Rattle.draw.specs.Steps.{Draws}
-use Rattle.draw.proofs.Loops.{lent-still, first-none, first-few, first-more, draws-output-length, draws-marks-length}
+use Rattle.screens.specs.Screens.{screenOf}
+use Rattle.screens.proofs.Screens.{within}
+use Rattle.tiles.specs.Steps.{Draws}
+use Rattle.tiles.proofs.Sizes.{rows-few}
+use Rattle.tiles.proofs.Loops.{lent-still, first-none, first-few, first-more, draws-output-length, draws-marks-length}
 use Rattle.draw.proofs.draw_first.Statement.{statement}
 use Rattle.draw.proofs.draw_first.Tie as tie
 
 abbrev Inv-loop : tie.InvT-loop
-Inv-loop picture output₀ marks₀ w h q n width stale₀ y₀ output marks stale y =
-    (y ≤ h) × Draws screen3 w h q 0 (y * w) n picture output₀ marks₀ output marks stale
+Inv-loop picture output₀ marks₀ w h q scale n width most stale₀ y₀ output marks stale y =
+    (y ≤ h) × Draws (screenOf scale) w h q 0 (y * w) n picture output₀ marks₀ output marks stale
 
 abbrev μ-loop : tie.MeasureT-loop
-μ-loop picture output₀ marks₀ w h q n width stale₀ y₀ output marks stale y = h - y
+μ-loop picture output₀ marks₀ w h q scale n width most stale₀ y₀ output marks stale y = h - y
 
 -- the rows before y, and the marks and words as they are
 record Rows (w h y m : ℕ) : Type 0 where
@@ -33,25 +35,28 @@ record Rows (w h y m : ℕ) : Type 0 where
   few : w * h ≤ 4194304
 
 abbrev RowsAt : tie.At-loop Inv-loop μ-loop → Type 0
-RowsAt c = let a = c .before .before .before .before .args in Rows (a .w) (a .h) (c .loop .y) (length (c .loop .marks))
+RowsAt c = let a = c .before .before .before .before .before .args in Rows (a .w) (a .h) (c .loop .y) (length (c .loop .marks))
 
 rows-of : (c : tie.At-loop Inv-loop μ-loop) → RowsAt c
 rows-of c =
-    let s = c .before .before .before .before in
+    let s = c .before .before .before .before .before in
     let a = s .args in
     let l = c .loop in
     record {
       within = omega (arith, mul-le-mul-right (a .w) (l .inv .0));
-      marked = omega (arith, s .pre .for-marks, draws-marks-length screen3 (a .w) (a .h) (a .clarity) (a .picture .now) (l .inv .1 .draws));
-      few = area (a .w) (a .h) (s .pre .wide) (s .pre .high);
+      marked = omega (arith, s .pre .for-marks, draws-marks-length (screenOf (a .scale)) (a .w) (a .h) (a .clarity) (a .picture .now) (l .inv .1 .draws));
+      few = area (a .w) (a .h) (within (a .scale) (s .pre .wide)) (within (a .scale) (s .pre .high));
     }
+
+rows-requires : tie.Need-rows-requires Inv-loop μ-loop
+rows-requires c κs = search needs
 
 loop-holds : tie.Need-loop-holds Inv-loop μ-loop
 loop-holds c =
-    let a = c .before .before .before .args in (
+    let a = c .before .before .before .before .args in (
       omega arith,
-      subst (λ (i : ℕ). Draws screen3 (a .w) (a .h) (a .clarity) 0 i (a .n) (a .picture .now) (a .output .now) (a .marks .now) (a .output .now) (a .marks .now) 0)
-          (sym (zero-mul (a .w))) (first-none screen3 (a .w) (a .h) (a .clarity) (a .picture .now) (a .output .now) (a .marks .now)
+      subst (λ (i : ℕ). Draws (screenOf (a .scale)) (a .w) (a .h) (a .clarity) 0 i (a .n) (a .picture .now) (a .output .now) (a .marks .now) (a .output .now) (a .marks .now) 0)
+          (sym (zero-mul (a .w))) (first-none (screenOf (a .scale)) (a .w) (a .h) (a .clarity) (a .picture .now) (a .output .now) (a .marks .now)
           (sym (count-none 0 (a .marks .now))) (none-left 0 0 (a .n) (a .marks .now) refl)),
     )
 
@@ -63,12 +68,12 @@ mul-start c = omega (arith, rows-of (c .before .before))
 
 add-count-stale : tie.Need-add-count-stale Inv-loop μ-loop
 add-count-stale c =
-    let a = c .before .before .before .before .before .before .before .args in
+    let a = c .before .before .before .before .before .before .before .before .args in
     omega (arith, rows-of (c .before .before .before), row-end (a .w) (a .h) (c .before .before .before .loop .y) (omega arith))
 
 count-stale-requires : tie.Need-count-stale-requires Inv-loop μ-loop
 count-stale-requires c κs =
-    let a = c .before .before .before .before .before .before .before .args in
+    let a = c .before .before .before .before .before .before .before .before .args in
     let r = rows-of (c .before .before .before) in
     let e = row-end (a .w) (a .h) (c .before .before .before .loop .y) (omega arith) in
     (omega arith, (omega (arith, r, e), omega (arith, r, e)))
@@ -81,7 +86,7 @@ loop-less c = search needs
 
 loop-again : tie.Need-loop-again Inv-loop μ-loop
 loop-again c =
-    let s = c .before .before .before .before .before .before .before .before .before in
+    let s = c .before .before .before .before .before .before .before .before .before .before in
     let a = s .args in
     let l = c .before .before .before .before .before .loop in
     let lo = l .y * a .w in
@@ -90,12 +95,15 @@ loop-again c =
     let zero : 0 ≡ c .before .count-stale .result = omega (arith, c .if2 .taken) in
     let none = zero ∙ c .before .count-stale .ensures ∙ ap (λ (j : ℕ). count (staleIn lo j (l .marks))) (sym e) in (
       omega arith,
-      first-more screen3 (a .w) (a .h) (a .clarity) (a .picture .now) (omega (arith, e)) (omega (arith, e, row, s .pre .for-marks)) (omega arith) (l .inv .1)
-          (first-none screen3 (a .w) (a .h) (a .clarity) (a .picture .now) (l .output) (l .marks) none (none-stale lo ((l .y + 1) * a .w) (a .n - l .stale) (l .marks) (sym none))),
+      first-more (screenOf (a .scale)) (a .w) (a .h) (a .clarity) (a .picture .now) (omega (arith, e)) (omega (arith, e, row, s .pre .for-marks)) (omega arith) (l .inv .1)
+          (first-none (screenOf (a .scale)) (a .w) (a .h) (a .clarity) (a .picture .now) (l .output) (l .marks) none (none-stale lo ((l .y + 1) * a .w) (a .n - l .stale) (l .marks) (sym none))),
     )
 
 add-least : tie.Need-add-least Inv-loop μ-loop
-add-least c = search needs
+add-least c =
+    let k = c .before .before .before .before .before .before in
+    let s = k .before .before .before .before in
+    omega (arith, k .rows .ensures, rows-few (s .args .scale), within (s .args .scale) (s .pre .high))
 
 least-requires : tie.Need-least-requires Inv-loop μ-loop
 least-requires c κs = search needs
@@ -105,19 +113,19 @@ sub-draw-band c = omega (arith, ltb-true)
 
 draw-band-requires : tie.Need-draw-band-requires Inv-loop μ-loop
 draw-band-requires c κs =
-    let s = c .before .before .before .before .before .before .before .before .before .before .before .before in
+    let s = c .before .before .before .before .before .before .before .before .before .before .before .before .before in
     let a = s .args in
     let l = c .before .before .before .before .before .before .before .before .loop in
     let e = c .before .before .least .ensures in
     let d = l .inv .1 .draws in (
-      (omega (arith, e), (omega (arith, e), omega (arith, e))),
+      (omega (arith, e, c .before .before .before .before .before .before .before .before .before .rows .ensures, rows-few (a .scale)), (omega (arith, e), omega (arith, e, c .before .before .before .before .before .before .before .before .before .rows .ensures))),
       lent-still (s .pre)
-          (draws-output-length screen3 (a .w) (a .h) (a .clarity) (a .picture .now) d) (draws-marks-length screen3 (a .w) (a .h) (a .clarity) (a .picture .now) d),
+          (draws-output-length (screenOf (a .scale)) (a .w) (a .h) (a .clarity) (a .picture .now) d) (draws-marks-length (screenOf (a .scale)) (a .w) (a .h) (a .clarity) (a .picture .now) d),
     )
 
 add-stale : tie.Need-add-stale Inv-loop μ-loop
 add-stale c =
-    let s = c .before .before .before .before .before .before .before .before .before .before .before .before .before .before .before .before .before in
+    let s = c .before .before .before .before .before .before .before .before .before .before .before .before .before .before .before .before .before .before in
     let a = s .args in
     let l = c .before .before .before .before .before .before .before .before .before .before .before .before .before .loop in
     let r = rows-of (c .before .before .before .before .before .before .before .before .before .before .before .before .before) in
@@ -128,18 +136,17 @@ add-stale c =
       arith,
       r,
       end,
-      first-few screen3 (a .w) (a .h) (a .clarity) (a .picture .now) (omega (arith, r, s .pre .for-marks)) (l .inv .1),
-      first-few screen3 (a .w) (a .h) (a .clarity) (a .picture .now) (omega (arith, r, end)) (c .before .before .before .before .draw-band .ensures),
+      first-few (screenOf (a .scale)) (a .w) (a .h) (a .clarity) (a .picture .now) (omega (arith, r, s .pre .for-marks)) (l .inv .1),
+      first-few (screenOf (a .scale)) (a .w) (a .h) (a .clarity) (a .picture .now) (omega (arith, r, end)) (c .before .before .before .before .draw-band .ensures),
     )
 
 loop-less-2 : tie.Need-loop-less-2 Inv-loop μ-loop
 loop-less-2 c =
-    let e = c .before .before .before .before .before .before .before .least .ensures in
-    omega (arith, e)
+    omega (arith, c .before .before .before .before .before .before .before .least .ensures, c .before .before .before .before .before .before .before .before .before .before .before .before .before .before .rows .ensures, rows-few (c .before .before .before .before .before .before .before .before .before .before .before .before .before .before .before .before .before .before .args .scale))
 
 loop-again-2 : tie.Need-loop-again-2 Inv-loop μ-loop
 loop-again-2 c =
-    let s = c .before .before .before .before .before .before .before .before .before .before .before .before .before .before .before .before .before in
+    let s = c .before .before .before .before .before .before .before .before .before .before .before .before .before .before .before .before .before .before in
     let a = s .args in
     let l = c .before .before .before .before .before .before .before .before .before .before .before .before .before .loop in
     let e = c .before .before .before .before .before .before .before .least .ensures in
@@ -147,7 +154,7 @@ loop-again-2 c =
     let down : l .y ≤ c .before .before .before .before .before .before .before .least .result = omega (arith, e) in
     let low : c .before .before .before .before .before .before .before .least .result ≤ a .h = omega (arith, e) in (
       low,
-      first-more screen3 (a .w) (a .h) (a .clarity) (a .picture .now) (mul-le-mul-right (a .w) down)
+      first-more (screenOf (a .scale)) (a .w) (a .h) (a .clarity) (a .picture .now) (mul-le-mul-right (a .w) down)
           (omega (arith, mul-le-mul-right (a .w) low, s .pre .for-marks)) refl (l .inv .1) (d .ensures),
     )
 
@@ -167,31 +174,31 @@ count-stale-requires-2 c κs =
 
 add-result : tie.Need-add-result Inv-loop μ-loop
 add-result c =
-    let s = c .before .before .before .before .before .before .before in
+    let s = c .before .before .before .before .before .before .before .before in
     let a = s .args in
     let l = c .before .before .before .loop in
     let r = rows-of (c .before .before .before) in
     omega (
       arith,
       r,
-      first-few screen3 (a .w) (a .h) (a .clarity) (a .picture .now) (omega (arith, r, s .pre .for-marks)) (l .inv .1),
+      first-few (screenOf (a .scale)) (a .w) (a .h) (a .clarity) (a .picture .now) (omega (arith, r, s .pre .for-marks)) (l .inv .1),
       c .count-stale2 .ensures,
       count-run-le (l .y * a .w) (a .h * a .w) (l .marks) (omega (arith, r)),
     )
 
 same-length : tie.Need-same-length Inv-loop μ-loop
 same-length c =
-    let a = c .before .before .before .before .before .before .before .args in
-    draws-output-length screen3 (a .w) (a .h) (a .clarity) (a .picture .now) (c .before .before .before .loop .inv .1 .draws)
+    let a = c .before .before .before .before .before .before .before .before .args in
+    draws-output-length (screenOf (a .scale)) (a .w) (a .h) (a .clarity) (a .picture .now) (c .before .before .before .loop .inv .1 .draws)
 
 same-length-2 : tie.Need-same-length-2 Inv-loop μ-loop
 same-length-2 c =
-    let a = c .before .before .before .before .before .before .before .args in
-    draws-marks-length screen3 (a .w) (a .h) (a .clarity) (a .picture .now) (c .before .before .before .loop .inv .1 .draws)
+    let a = c .before .before .before .before .before .before .before .before .args in
+    draws-marks-length (screenOf (a .scale)) (a .w) (a .h) (a .clarity) (a .picture .now) (c .before .before .before .loop .inv .1 .draws)
 
 returns : tie.Need-returns Inv-loop μ-loop
 returns c =
-    let s = c .before .before .before .before .before .before .before in
+    let s = c .before .before .before .before .before .before .before .before in
     let a = s .args in
     let l = c .before .before .before .loop in
     let r = rows-of (c .before .before .before) in
@@ -201,10 +208,10 @@ returns c =
     (λ t. none-wanted (l .y * a .w) (a .h * a .w) (a .n) (l .stale) (l .marks) (omega (arith, ltb-false, t .1 .left)))
     (λ t. none-left (l .y * a .w) (a .h * a .w) (a .n - l .stale) (l .marks) (ap (λ (y : ℕ). y * a .w) (le-antisymm (l .inv .0) (t .left))))
     (c .before .before .loop-test .came) in
-    subst (λ (j : ℕ). Draws screen3 (a .w) (a .h) (a .clarity) 0 j (a .n) (a .picture .now) (a .output .now) (a .marks .now) (l .output) (l .marks)
+    subst (λ (j : ℕ). Draws (screenOf (a .scale)) (a .w) (a .h) (a .clarity) 0 j (a .n) (a .picture .now) (a .output .now) (a .marks .now) (l .output) (l .marks)
     (l .stale + c .count-stale2 .result)) e
-    (first-more screen3 (a .w) (a .h) (a .clarity) (a .picture .now) (omega (arith, r)) (omega (arith, s .pre .for-marks)) refl (l .inv .1)
-    (first-none screen3 (a .w) (a .h) (a .clarity) (a .picture .now) (l .output) (l .marks) (c .count-stale2 .ensures) none))
+    (first-more (screenOf (a .scale)) (a .w) (a .h) (a .clarity) (a .picture .now) (omega (arith, r)) (omega (arith, s .pre .for-marks)) refl (l .inv .1)
+    (first-none (screenOf (a .scale)) (a .w) (a .h) (a .clarity) (a .picture .now) (l .output) (l .marks) (c .count-stale2 .ensures) none))
 
 pub draw-first-spec : {M : Type 1} → statement M
 draw-first-spec =
@@ -212,6 +219,7 @@ draw-first-spec =
     (tie.spec
     Inv-loop
     μ-loop
+    rows-requires
     loop-holds
     cast-start
     mul-start

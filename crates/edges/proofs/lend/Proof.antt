@@ -51,16 +51,16 @@ use Rattle.paints.proofs.Paint as T
 use Rattle.paints.proofs.Paint.Laws as T′
 use Rattle.machine.specs.Calls.{PaintLists}
 use Rattle.three.specs.Three.{screen3}
-use Rattle.session.specs.declared.Session.{Session}
-use Rattle.session.specs.declared.PaintedList.{PaintedList}
-use Rattle.session.proofs.Session as TS
-use Rattle.session.proofs.Session.Laws as TS′
-use Rattle.session.proofs.PaintedList as TL
-use Rattle.session.proofs.PaintedList.Laws as TL′
-use Rattle.session.proofs.Session.paint_list as paint-list
-use Rattle.session.proofs.Session.paint_list.Symbol as paint-list-def
-use Rattle.session.proofs.Session.paint_list.Symbol.{name as #paint-list}
-use Rattle.session.proofs.Session.paint_list.Met as paint-list-thm
+use Rattle.session3x.specs.declared.Session3x.{Session3x}
+use Rattle.calls.specs.declared.PaintedList.{PaintedList}
+use Rattle.session3x.proofs.Session3x as TS
+use Rattle.session3x.proofs.Session3x.Laws as TS′
+use Rattle.calls.proofs.PaintedList as TL
+use Rattle.calls.proofs.PaintedList.Laws as TL′
+use Rattle.session3x.proofs.Session3x.paint_list as paint-list
+use Rattle.session3x.proofs.Session3x.paint_list.Symbol as paint-list-def
+use Rattle.session3x.proofs.Session3x.paint_list.Symbol.{name as #paint-list}
+use Rattle.session3x.proofs.Session3x.paint_list.Met as paint-list-thm
 use Rattle.edges.proofs.lend.Key.{name as #lend}
 use Rattle.edges.proofs.lend as lend
 use Rattle.edges.proofs.lend.Statement as stated
@@ -93,7 +93,7 @@ stayed = (
 )
 
 -- what `paint_list` says, and what `lend` is to say
-abbrev Said : Session → List ℕ → List ℕ → List Paint → PaintedList → List ℕ → List ℕ → Type 0
+abbrev Said : Session3x → List ℕ → List ℕ → List Paint → PaintedList → List ℕ → List ℕ → Type 0
 Said s l m items t l′ m′ =
     PaintLists screen3 (s .header) l m items (record { picture = l′; marks = m′; refusal = t .refusal; stale = t .stale })
 
@@ -103,7 +103,7 @@ module _ {M : Type 1} (𝓤 : URA M) (H : Heap 𝓤) (A : Atoms 𝓤) (mem : Mem
   List4 = tripleOf 𝓤 H A paint-list.signature (paint-list.spec 𝓤 H A mem run)
 
 module _ {M : Type 1} (𝓤 : URA M) (H : Heap 𝓤) (A : Atoms 𝓤) (W : Given 𝓤 H A) (mem : Memory → SProp 𝓤) (run : Routine → Fun 𝓤) (κ₀ κ₁ : Lft)
-    (q₀ q₁ : Share) (d : Session) (y z : RefT (List ℕ)) (xs : List Paint) (isd : Is Ses d (LL.vals TS.the-type TS′.the-laws d))
+    (q₀ q₁ : Share) (d : Session3x) (y z : RefT (List ℕ)) (xs : List Paint) (isd : Is Ses d (LL.vals TS.the-type TS′.the-laws d))
     (gy : Room u32 (length (y .now))) (gz : Room u8 (length (z .now))) (ix : Is Arr xs (array-vals (LL.vals T.the-type T′.the-laws) xs))
     (gx : Room P (length xs)) where
   abbrev n : ℕ
@@ -303,4 +303,4 @@ lend-spec 𝓤 H 𝓜 𝓖 𝓡 =
     entered 𝓤 H (tripleOf 𝓤 H (𝓖 .A) lend.signature (lend.spec 𝓤 H (𝓖 .A) (𝓜 .mem) (𝓡 .run)))
     (tables 𝓤 H 𝓜 𝓡 code.env .C) (tables 𝓤 H 𝓜 𝓡 code.env .Λ) #lend code.function (code.unfolded 𝓤 H 𝓜 𝓡)
     (lend-meets 𝓤 H (𝓖 .A) (givenOf 𝓤 H 𝓜 𝓖) (𝓜 .mem) (𝓡 .run) (tablesOf 𝓤 H 𝓜 (tables 𝓤 H 𝓜 𝓡 code.env))
-    (cited 𝓤 H (List4 𝓤 H (𝓖 .A) (𝓜 .mem) (𝓡 .run)) 𝓜 𝓡 code.env #paint-list paint-list-def.routine code.calls-session·Session·paint-list (paint-list-thm.met 𝓤 H 𝓜 𝓖 𝓡)))
+    (cited 𝓤 H (List4 𝓤 H (𝓖 .A) (𝓜 .mem) (𝓡 .run)) 𝓜 𝓡 code.env #paint-list paint-list-def.routine code.calls-session3x·Session3x·paint-list (paint-list-thm.met 𝓤 H 𝓜 𝓖 𝓡)))

@@ -14,18 +14,15 @@ use Rattle.stored.proofs.put_rect.Statement.{statement}
 use Rattle.stored.proofs.put_rect.Tie as tie
 
 -- block (i, j) of the rectangle
-abbrev blocks : ℕ → ℕ → List ℕ → ℕ → ℕ → ℕ → List ℕ → ℕ → ℕ → List ℕ
-blocks w h picture x y k tags i j = blockFrom w h (words w picture) (x + i) (y + j) (tagsAt tags (j * (k * 4) + i * 4))
+abbrev blocks : ℕ → ℕ → List ℕ → ℕ → ℕ → List ℕ → ℕ → ℕ → ℕ → ℕ → List ℕ
+blocks w h picture x y tags from stride i j = blockFrom w h (words w picture) (x + i) (y + j) (tagsAt tags (from + j * stride + i * 4))
 
 abbrev Inv-loop : tie.InvT-loop
-Inv-loop picture w h x y k r tags out₀ ow at row rows j₀ from₀ o₀ out j from o =
-    (j ≤ r) × (from ≡ j * (k * 4)) × (o ≡ at + j * (3 * ow)) × Rected ow at k j (blocks w h picture x y k tags) out₀ out
+Inv-loop picture w h x y k r tags from stride out₀ ow at rows j₀ f₀ o₀ out j f o =
+    (j ≤ r) × (f ≡ from + j * stride) × (o ≡ at + j * (3 * ow)) × Rected ow at k j (blocks w h picture x y tags from stride) out₀ out
 
 abbrev μ-loop : tie.MeasureT-loop
-μ-loop picture w h x y k r tags out₀ ow at row rows j₀ from₀ o₀ out j from o = r - j
-
-mul-row : tie.Need-mul-row Inv-loop μ-loop
-mul-row c = search needs
+μ-loop picture w h x y k r tags from stride out₀ ow at rows j₀ f₀ o₀ out j f o = r - j
 
 mul-rows : tie.Need-mul-rows Inv-loop μ-loop
 mul-rows c = search needs
@@ -34,9 +31,9 @@ loop-holds : tie.Need-loop-holds Inv-loop μ-loop
 loop-holds c =
     let a = c .before .before .before .args in (
       omega arith,
-      omega (arith, zero-mul (a .k * 4)),
+      omega (arith, zero-mul (a .stride)),
       omega (arith, zero-mul (3 * a .ow)),
-      rected-none (a .ow) (a .at) (a .k) (blocks (a .w) (a .h) (a .picture .now) (a .x) (a .y) (a .k) (a .tags .now)) (a .out .now),
+      rected-none (a .ow) (a .at) (a .k) (blocks (a .w) (a .h) (a .picture .now) (a .x) (a .y) (a .tags .now) (a .from) (a .stride)) (a .out .now),
     )
 
 -- in a turn the row has room in both buffers
@@ -53,20 +50,23 @@ put-row-requires c κs =
       along = omega arith;
       down = omega arith;
       picture = omega arith;
-      tags = omega (arith, room (c .before) (a .k * 4));
+      tags = omega (arith, room (c .before) (a .stride));
       apart = omega arith;
       words = omega (arith, room (c .before) (3 * a .ow));
     }
 
-add-from : tie.Need-add-from Inv-loop μ-loop
-add-from c =
+add-f : tie.Need-add-f Inv-loop μ-loop
+add-f c =
     let d = c .before .before .before .before in
-    omega (arith, room d (d .before .before .before .before .before .args .k * 4))
+    omega (arith, room d (d .before .before .before .before .before .args .stride))
 
 add-o : tie.Need-add-o Inv-loop μ-loop
 add-o c =
     let d = c .before .before .before .before in
-    omega (arith, room d (3 * d .before .before .before .before .before .args .ow))
+    let s = d .before .before .before .before .before in
+    -- how long the output can be: `good` has what is known of each argument, and the output is the eleventh
+    let known = s .good .1 .1 .1 .1 .1 .1 .1 .1 .1 .1 .0 in
+    omega (arith, room d (3 * s .args .ow), known)
 
 add-j : tie.Need-add-j Inv-loop μ-loop
 add-j c = search needs
@@ -81,10 +81,10 @@ loop-again c =
     let block : ℕ → ℕ → List ℕ =
     λ n i. blockFrom (a .w) (a .h) (words (a .w) (a .picture .now)) (a .x + i) (a .y + s .j) (tagsAt (a .tags .now) (n + i * 4)) in (
       omega arith,
-      omega (arith, add-one-mul (s .j) (a .k * 4)),
+      omega (arith, add-one-mul (s .j) (a .stride)),
       omega (arith, add-one-mul (s .j) (3 * a .ow)),
-      rected-more (a .ow) (a .at) (a .k) (s .j) (blocks (a .w) (a .h) (a .picture .now) (a .x) (a .y) (a .k) (a .tags .now)) (a .out .now)
-          (s .out) (c .before .before .put-row .last .1 .1 .1 .1 .1 .1 .1 .1 .0) (s .o) (block (s .from))
+      rected-more (a .ow) (a .at) (a .k) (s .j) (blocks (a .w) (a .h) (a .picture .now) (a .x) (a .y) (a .tags .now) (a .from) (a .stride)) (a .out .now)
+          (s .out) (c .before .before .put-row .last .1 .1 .1 .1 .1 .1 .1 .1 .0) (s .o) (block (s .f))
           (omega (arith, room (c .before .before .before .before) (3 * a .ow))) (s .inv .3) (s .inv .2)
           (λ i h. ap (λ (n : ℕ). block n i) (s .inv .1)) (c .before .before .put-row .ensures),
     )
@@ -96,7 +96,7 @@ returns : tie.Need-returns Inv-loop μ-loop
 returns c =
     let a = c .before .before .before .before .before .args in
     let s = c .before .loop in
-    rected-done (a .ow) (a .at) (a .k) (s .j) (a .r) (blocks (a .w) (a .h) (a .picture .now) (a .x) (a .y) (a .k) (a .tags .now))
+    rected-done (a .ow) (a .at) (a .k) (s .j) (a .r) (blocks (a .w) (a .h) (a .picture .now) (a .x) (a .y) (a .tags .now) (a .from) (a .stride))
     (a .out .now) (s .out) (s .inv .3) (omega arith)
 
 pub put-rect-spec : {M : Type 1} → statement M
@@ -105,12 +105,11 @@ put-rect-spec =
     (tie.spec
     Inv-loop
     μ-loop
-    mul-row
     mul-rows
     loop-holds
     add-put-row
     put-row-requires
-    add-from
+    add-f
     add-o
     add-j
     loop-less

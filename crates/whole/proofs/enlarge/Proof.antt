@@ -24,6 +24,9 @@ part-tags-start c = search needs
 part-tags-end : tie.Need-part-tags-end
 part-tags-end c = search needs
 
+mul-stride : tie.Need-mul-stride
+mul-stride c = search needs
+
 mul-put-rect : tie.Need-mul-put-rect
 mul-put-rect c = search needs
 
@@ -57,6 +60,7 @@ enlarge-spec =
     sub-tags
     part-tags-start
     part-tags-end
+    mul-stride
     mul-put-rect
     put-rect-requires
     same-length

@@ -3,8 +3,9 @@ use Prim.Native.Nat.{ℕ, _≤_}
 use native.Mathlib.Omega.{arith}
 use borrow.Author.Needs.{needs}
 use Rattle.marks.specs.Marks.{Part}
-use Rattle.three.specs.Three.{screen3}
-use Rattle.draw.proofs.Parts.{part-of, window-swept}
+use Rattle.screens.specs.Screens.{screenOf}
+use Rattle.screens.proofs.Screens.{within}
+use Rattle.tiles.proofs.Parts.{part-of, window-swept}
 use Rattle.draw.proofs.part.draw_window.Statement.{statement}
 use Rattle.draw.proofs.part.draw_window.Tie as tie
 
@@ -17,7 +18,7 @@ part-at s y y′ r d =
     let a = s .args in
     let i = s .pre .0 in
     let l = s .pre .1 in
-    part-of (a .w) (a .h) (a .x) (a .end) y y′ (a .marks .now) (l .wide) (l .high) (l .for-marks) (omega (arith, i .some-columns)) (i .along) r
+    part-of (a .w) (a .h) (a .x) (a .end) y y′ (a .marks .now) (within (a .scale) (l .wide)) (within (a .scale) (l .high)) (l .for-marks) (omega (arith, i .some-columns)) (i .along) r
     (omega (arith, i .down))
 
 first-row-requires : tie.Need-first-row-requires
@@ -36,11 +37,11 @@ column-end-requires c κs =
     let e = c .before .row-end .ensures in
     (s .pre .0 .some-columns, part-at s _ _ (omega (arith, e .0)) (e .1 .0))
 
-sub-draw-tile : tie.Need-sub-draw-tile
-sub-draw-tile c = search needs
+sub-t22 : tie.Need-sub-t22
+sub-t22 c = search needs
 
-sub-draw-tile-2 : tie.Need-sub-draw-tile-2
-sub-draw-tile-2 c = search needs
+sub-t23 : tie.Need-sub-t23
+sub-t23 c = search needs
 
 draw-tile-requires : tie.Need-draw-tile-requires
 draw-tile-requires c κs =
@@ -56,8 +57,6 @@ draw-tile-requires c κs =
         few-columns = omega (arith, r, i .few-columns);
         some-rows = omega (arith, e);
         few-rows = omega (arith, f, e, i .few-rows);
-        wide = s .pre .1 .wide;
-        high = s .pre .1 .high;
       },
       s .pre .1,
     )
@@ -77,7 +76,7 @@ returns c =
     let r = right .ensures in
     let e = low .ensures in
     let f = top .ensures in
-    window-swept screen3 (a .w) (a .h) (a .clarity) (a .picture .now) (a .x) (a .end) (a .y) (a .bottom) (right .result) (top .result) (low .result)
+    window-swept (screenOf (a .scale)) (a .w) (a .h) (a .clarity) (a .picture .now) (a .x) (a .end) (a .y) (a .bottom) (right .result) (top .result) (low .result)
     (omega (arith, r .0)) (r .1 .0) (f .0) (omega (arith, e .0)) (e .1 .0) (f .1 .1) (r .1 .1) (e .1 .1) (c .before .before .before .before .draw-tile .ensures)
 
 pub draw-window-spec : {M : Type 1} → statement M
@@ -87,8 +86,8 @@ draw-window-spec =
     first-row-requires
     row-end-requires
     column-end-requires
-    sub-draw-tile
-    sub-draw-tile-2
+    sub-t22
+    sub-t23
     draw-tile-requires
     same-length
     same-length-2

@@ -1,0 +1,7 @@
+pub mod Loops
+pub mod Swept
+pub mod Parts
+pub mod Sizes
+mod Runs
+mod Tagged
+mod Ring

@@ -1,0 +1,368 @@
+// A tile: a rectangle of blocks that share their passes' work. Of its blocks the stale ones are drawn, and the others keep their words. Both
+// screens store blocks of nine words, those of the last pass: the three-times screen one for each of its own blocks, from the picture, and
+// the nine-times screen three by three, from a window of the first result that the first pass leaves on the stack.
+use block::BYTES;
+use block::TAGS;
+use block::ring;
+use block::tags_tile;
+use clarity::Clarity;
+use grid::Grid;
+use marks::clear_run;
+use marks::stale_run;
+use screens::NINE;
+use screens::THREE;
+use screens::corner;
+use stored::put_rect;
+ghost use mathlib.Core.Path.{_≡_};
+ghost use Prim.Native.Nat.{_+_, _*_, _<_, _≤_};
+ghost use lib.ListN.{length};
+ghost use Rattle.picture.specs.Picture.{words};
+ghost use Rattle.block.specs.Block.{blockOf};
+ghost use Rattle.block.specs.Window.{Tile};
+ghost use Rattle.stored.specs.Store.{putRect};
+ghost use Rattle.machine.specs.Lent.{Lent};
+ghost use Rattle.marks.specs.Marks.{blocksFrom, Inside};
+ghost use Rattle.three.specs.Three.{screen3};
+ghost use Rattle.nine.specs.Nine.{screen9};
+ghost use Rattle.screens.specs.Screens.{screenOf};
+ghost use Rattle.tiles.specs.Steps.{DrawsAll, Swept};
+ghost use Rattle.tiles.specs.Tiles.{cellsOf, columnsOf, rowsOf, lastPass, TileOn, Ready, windowWords};
+
+// Where a tile's blocks are drawn from: the last pass runs over a picture of w by h, in which the tile begins at (x, y).
+pub struct Source {
+    pub w: u32,
+    pub h: u32,
+    pub x: u32,
+    pub y: u32,
+}
+
+// How many pixels of the source are a block's width, and as many its height.
+fn cells(scale: u32) -> u32
+    ensures { λ r. ⌜ r ≡ cellsOf scale ⌝ }
+{
+    if scale == NINE {
+        return 3;
+    }
+    1
+}
+
+// The most columns of a tile: 15 or 16 pixels of the source, as many as have their tags at once.
+pub fn columns(scale: u32) -> u32
+    ensures { λ r. ⌜ r ≡ columnsOf scale ⌝ }
+{
+    if scale == NINE {
+        return 5;
+    }
+    16
+}
+
+// The most rows of a tile: 12 pixels of the source.
+pub fn rows(scale: u32) -> u32
+    ensures { λ r. ⌜ r ≡ rowsOf scale ⌝ }
+{
+    if scale == NINE {
+        return 4;
+    }
+    12
+}
+
+// Of the tile t, the n blocks from column i of row j on drawn by their tags, and no longer stale. The tags are those of the picture at the
+// setting, which here only the contract reads.
+fn draw_run(
+    picture: &[u32],
+    source: &[u32],
+    output: &mut [u32],
+    marks: &mut [u8],
+    w: u32,
+    h: u32,
+    clarity: Clarity,
+    scale: u32,
+    t: Grid,
+    s: Source,
+    tags: &[u8],
+    i: u32,
+    j: u32,
+    n: u32,
+)
+    requires { ⌜ ((0 < n) × ((i + n ≤ t .cols) × (j < t .rows))) × ((TileOn scale w h t)
+        × ((Ready (cellsOf scale) (lastPass scale clarity w h (words w (now picture))) t s (now source) (now tags))
+        × Lent (screenOf scale) w h (length (now picture)) (length (now output)) (length (now marks)))) ⌝ }
+    ensures { λ _. ⌜ DrawsAll (screenOf scale) w h clarity (blocksFrom ((t .y0 + j) * w + (t .x0 + i)) n) (now (picture .entry))
+        (now (output .entry)) (now (marks .entry)) (now (output .exit)) (now (marks .exit)) ⌝ }
+{
+    let m = cells(scale);
+    let left = m * i;
+    let top = m * j;
+    let row = 4 * ((m * t.cols) as usize);
+    let from = (top as usize) * row + 4 * (left as usize);
+    let at = corner(scale, w, t.x0 + i, t.y0 + j);
+    put_rect(
+        source,
+        s.w,
+        s.h,
+        s.x + left,
+        s.y + top,
+        m * n,
+        m,
+        tags,
+        from,
+        row,
+        output,
+        3 * ((m * w) as usize),
+        at,
+    );
+    let b = ((t.y0 + j) as usize) * (w as usize) + ((t.x0 + i) as usize);
+    clear_run(marks, b, n);
+}
+
+// The stale ones of row j of the tile t drawn, and no longer stale.
+fn draw_stale(
+    picture: &[u32],
+    source: &[u32],
+    output: &mut [u32],
+    marks: &mut [u8],
+    w: u32,
+    h: u32,
+    clarity: Clarity,
+    scale: u32,
+    t: Grid,
+    s: Source,
+    tags: &[u8],
+    j: u32,
+)
+    requires { ⌜ (j < t .rows) × ((TileOn scale w h t)
+        × ((Ready (cellsOf scale) (lastPass scale clarity w h (words w (now picture))) t s (now source) (now tags))
+        × Lent (screenOf scale) w h (length (now picture)) (length (now output)) (length (now marks)))) ⌝ }
+    ensures { λ _. ⌜ Swept (screenOf scale) w h clarity (Inside w (t .x0) (t .x0 + t .cols) (t .y0 + j) (t .y0 + j + 1))
+        (now (picture .entry)) (now (output .entry)) (now (marks .entry)) (now (output .exit)) (now (marks .exit)) ⌝ }
+{
+    let start = ((t.y0 + j) as usize) * (w as usize) + (t.x0 as usize);
+    let k = t.cols;
+    let mut i: u32 = 0;
+    while i < k {
+        let b = start + (i as usize);
+        if marks[b] == 0 {
+            i += 1;
+        } else {
+            let n = stale_run(marks, b, k - i);
+            draw_run(
+                picture,
+                source,
+                output,
+                marks,
+                w,
+                h,
+                clarity,
+                scale,
+                t,
+                s,
+                tags,
+                i,
+                j,
+                n,
+            );
+            i += n;
+        }
+    }
+}
+
+// The stale ones of the tile t drawn, and no longer stale.
+fn draw_rows(
+    picture: &[u32],
+    source: &[u32],
+    output: &mut [u32],
+    marks: &mut [u8],
+    w: u32,
+    h: u32,
+    clarity: Clarity,
+    scale: u32,
+    t: Grid,
+    s: Source,
+    tags: &[u8],
+)
+    requires { ⌜ (TileOn scale w h t)
+        × ((Ready (cellsOf scale) (lastPass scale clarity w h (words w (now picture))) t s (now source) (now tags))
+        × Lent (screenOf scale) w h (length (now picture)) (length (now output)) (length (now marks))) ⌝ }
+    ensures { λ _. ⌜ Swept (screenOf scale) w h clarity (Inside w (t .x0) (t .x0 + t .cols) (t .y0) (t .y0 + t .rows))
+        (now (picture .entry)) (now (output .entry)) (now (marks .entry)) (now (output .exit)) (now (marks .exit)) ⌝ }
+{
+    let r = t.rows;
+    let mut j: u32 = 0;
+    while j < r {
+        draw_stale(
+            picture,
+            source,
+            output,
+            marks,
+            w,
+            h,
+            clarity,
+            scale,
+            t,
+            s,
+            tags,
+            j,
+        );
+        j += 1;
+    }
+}
+
+// The stale ones of the tile t of the three-times screen drawn, and no longer stale: the passes run over the picture.
+fn draw_three(
+    picture: &[u32],
+    output: &mut [u32],
+    marks: &mut [u8],
+    w: u32,
+    h: u32,
+    clarity: Clarity,
+    t: Grid,
+)
+    requires { ⌜ (TileOn 3 w h t) × Lent screen3 w h (length (now picture)) (length (now output)) (length (now marks)) ⌝ }
+    ensures { λ _. ⌜ Swept screen3 w h clarity (Inside w (t .x0) (t .x0 + t .cols) (t .y0) (t .y0 + t .rows))
+        (now (picture .entry)) (now (output .entry)) (now (marks .entry)) (now (output .exit)) (now (marks .exit)) ⌝ }
+{
+    let mut bytes = [0u8; BYTES];
+    tags_tile(
+        picture,
+        w,
+        h,
+        clarity,
+        t.x0,
+        t.y0,
+        t.cols,
+        t.rows,
+        &mut bytes,
+    );
+    let s = Source {
+        w,
+        h,
+        x: t.x0,
+        y: t.y0,
+    };
+    draw_rows(
+        picture,
+        picture,
+        output,
+        marks,
+        w,
+        h,
+        clarity,
+        THREE,
+        t,
+        s,
+        &bytes[TAGS..],
+    );
+}
+
+// How many words the window has: three by three for each of at most 9 by 8 pixels, those within two of a tile of 5 by 4.
+const WINDOW: usize = 27 * 24;
+
+// The pixels of g enlarged, side by side from the window's first word on.
+fn enlarge(picture: &[u32], w: u32, h: u32, clarity: Clarity, g: Grid, window: &mut [u32])
+    requires { ⌜ (Tile w h (g .x0) (g .y0) (g .cols) (g .rows)) × ((w * h ≤ length (now picture))
+        × ((g .rows * (3 * (3 * g .cols)) ≤ length (now window)))) ⌝ }
+    ensures { λ _. ⌜ now (window .exit) ≡ putRect (3 * g .cols) 0 (g .cols) (g .rows)
+        (λ i j. blockOf clarity w h (words w (now (picture .entry))) (g .x0 + i) (g .y0 + j)) (now (window .entry)) ⌝ }
+{
+    let mut bytes = [0u8; BYTES];
+    tags_tile(
+        picture,
+        w,
+        h,
+        clarity,
+        g.x0,
+        g.y0,
+        g.cols,
+        g.rows,
+        &mut bytes,
+    );
+    let k = g.cols as usize;
+    put_rect(
+        picture,
+        w,
+        h,
+        g.x0,
+        g.y0,
+        g.cols,
+        g.rows,
+        &bytes[TAGS..],
+        0,
+        k * 4,
+        window,
+        3 * k,
+        0,
+    );
+}
+
+// The stale ones of the tile t of the nine-times screen drawn, and no longer stale: the first pass runs over the pixels within two of it,
+// and the second over what the first one leaves, which reaches six pixels round the tile or ends where the first result does.
+fn draw_nine(
+    picture: &[u32],
+    output: &mut [u32],
+    marks: &mut [u8],
+    w: u32,
+    h: u32,
+    clarity: Clarity,
+    t: Grid,
+)
+    requires { ⌜ (TileOn 9 w h t) × Lent screen9 w h (length (now picture)) (length (now output)) (length (now marks)) ⌝ }
+    ensures { λ _. ⌜ Swept screen9 w h clarity (Inside w (t .x0) (t .x0 + t .cols) (t .y0) (t .y0 + t .rows))
+        (now (picture .entry)) (now (output .entry)) (now (marks .entry)) (now (output .exit)) (now (marks .exit)) ⌝ }
+{
+    let g = ring(w, h, t.x0, t.y0, t.cols, t.rows, 2);
+    let mut window = [0u32; WINDOW];
+    enlarge(picture, w, h, clarity, g, &mut window);
+    let s = Source {
+        w: 3 * g.cols,
+        h: 3 * g.rows,
+        x: 3 * (t.x0 - g.x0),
+        y: 3 * (t.y0 - g.y0),
+    };
+    let mut bytes = [0u8; BYTES];
+    tags_tile(
+        &window,
+        s.w,
+        s.h,
+        clarity,
+        s.x,
+        s.y,
+        3 * t.cols,
+        3 * t.rows,
+        &mut bytes,
+    );
+    draw_rows(
+        picture,
+        &window,
+        output,
+        marks,
+        w,
+        h,
+        clarity,
+        NINE,
+        t,
+        s,
+        &bytes[TAGS..],
+    );
+}
+
+// The stale ones of the tile t drawn, and no longer stale.
+pub fn draw_tile(
+    picture: &[u32],
+    output: &mut [u32],
+    marks: &mut [u8],
+    w: u32,
+    h: u32,
+    clarity: Clarity,
+    scale: u32,
+    t: Grid,
+)
+    requires { ⌜ (TileOn scale w h t) × Lent (screenOf scale) w h (length (now picture)) (length (now output)) (length (now marks)) ⌝ }
+    ensures { λ _. ⌜ Swept (screenOf scale) w h clarity (Inside w (t .x0) (t .x0 + t .cols) (t .y0) (t .y0 + t .rows))
+        (now (picture .entry)) (now (output .entry)) (now (marks .entry)) (now (output .exit)) (now (marks .exit)) ⌝ }
+{
+    if scale == NINE {
+        draw_nine(picture, output, marks, w, h, clarity, t);
+    } else {
+        draw_three(picture, output, marks, w, h, clarity, t);
+    }
+}
