@@ -15,9 +15,9 @@ pub const NINE: u32 = 9;
 pub const THREE: u32 = 3;
 
 // The limit of w and of h, of the nine-times screen and of the three-times one.
-const SIDE_NINE: u32 = 682;
+pub const SIDE_NINE: u32 = 682;
 
-const SIDE_THREE: u32 = 2048;
+pub const SIDE_THREE: u32 = 2048;
 
 // How many words a block has, likewise.
 const WORDS_NINE: usize = 81;

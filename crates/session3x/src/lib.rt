@@ -11,6 +11,7 @@ use header::Rectangle;
 use paints::Paint;
 use paints::few;
 use paints::gather;
+use screens::SIDE_THREE;
 use screens::THREE;
 ghost use Rattle.machine.specs.Calls.{Opens, Paints, PaintLists, Refreshes, Shows, Locks};
 ghost use Rattle.paints.specs.Paints.{listed};
@@ -39,7 +40,7 @@ pub struct Locked {
 
 impl Session3x {
     // The limit of w and of h.
-    pub const SIDE: u32 = 2048;
+    pub const SIDE: u32 = SIDE_THREE;
 
     // A session on the picture: the output's words are made 0, every block stale, and nothing is locked.
     pub fn open(

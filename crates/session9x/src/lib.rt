@@ -11,6 +11,7 @@ use paints::Paint;
 use paints::few;
 use paints::gather;
 use screens::NINE;
+use screens::SIDE_NINE;
 ghost use Rattle.machine.specs.Calls.{Opens, Paints, PaintLists, Refreshes, Shows, Locks};
 ghost use Rattle.paints.specs.Paints.{listed};
 ghost use Rattle.nine.specs.Nine.{screen9};
@@ -38,7 +39,7 @@ pub struct Locked {
 
 impl Session9x {
     // The limit of w and of h.
-    pub const SIDE: u32 = 682;
+    pub const SIDE: u32 = SIDE_NINE;
 
     // A session on the picture: the output's words are made 0, every block stale, and nothing is locked.
     pub fn open(

@@ -318,18 +318,10 @@ fn draw_nine(
         x: 3 * (t.x0 - g.x0),
         y: 3 * (t.y0 - g.y0),
     };
+    let k = 3 * t.cols;
+    let r = 3 * t.rows;
     let mut bytes = [0u8; BYTES];
-    tags_tile(
-        &window,
-        s.w,
-        s.h,
-        clarity,
-        s.x,
-        s.y,
-        3 * t.cols,
-        3 * t.rows,
-        &mut bytes,
-    );
+    tags_tile(&window, s.w, s.h, clarity, s.x, s.y, k, r, &mut bytes);
     draw_rows(
         picture,
         &window,

@@ -35,32 +35,32 @@ enlarge-requires c κs =
     let e = c .before .ring .ensures in
     (first-tile (s .pre .0) (l .wide) (l .high) e, (l .for-picture, omega (arith, first-room (s .pre .0) (l .wide) (l .high) e, length-replicate {A = ℕ} 648 0)))
 
-mul-t15 : tie.Need-mul-t15
-mul-t15 c = omega (arith, ring-at (c .before .before .before .before))
-
-mul-t16 : tie.Need-mul-t16
-mul-t16 c = omega (arith, ring-at (c .before .before .before .before .before))
-
-sub-t17 : tie.Need-sub-t17
-sub-t17 c = omega (arith, ring-at (c .before .before .before .before .before .before .before))
+mul-t17 : tie.Need-mul-t17
+mul-t17 c = omega (arith, ring-at (c .before .before .before .before))
 
 mul-t18 : tie.Need-mul-t18
-mul-t18 c = omega (arith, ring-at (c .before .before .before .before .before .before .before))
+mul-t18 c = omega (arith, ring-at (c .before .before .before .before .before))
 
-sub-tags-tile : tie.Need-sub-tags-tile
-sub-tags-tile c = omega (arith, ring-at (c .before .before .before .before .before .before .before .before .before))
+sub-t19 : tie.Need-sub-t19
+sub-t19 c = omega (arith, ring-at (c .before .before .before .before .before .before .before))
 
-mul-tags-tile : tie.Need-mul-tags-tile
-mul-tags-tile c = omega (arith, ring-at (c .before .before .before .before .before .before .before .before .before))
+mul-t20 : tie.Need-mul-t20
+mul-t20 c = omega (arith, ring-at (c .before .before .before .before .before .before .before))
+
+sub-t21 : tie.Need-sub-t21
+sub-t21 c = omega (arith, ring-at (c .before .before .before .before .before .before .before .before .before))
+
+mul-t22 : tie.Need-mul-t22
+mul-t22 c = omega (arith, ring-at (c .before .before .before .before .before .before .before .before .before))
 
 slice-aggregate-tags-tile : tie.Need-slice-aggregate-tags-tile
 slice-aggregate-tags-tile c = search needs
 
-mul-tags-tile-2 : tie.Need-mul-tags-tile-2
-mul-tags-tile-2 c = omega (arith, c .before .before .before .before .before .before .before .before .before .before .before .before .before .before .before .pre .0 .few-columns)
+mul-k : tie.Need-mul-k
+mul-k c = omega (arith, c .before .before .before .before .before .before .before .before .before .before .before .before .before .before .pre .0 .few-columns)
 
-mul-tags-tile-3 : tie.Need-mul-tags-tile-3
-mul-tags-tile-3 c = omega (arith, c .before .before .before .before .before .before .before .before .before .before .before .before .before .before .before .before .pre .0 .few-rows)
+mul-r : tie.Need-mul-r
+mul-r c = omega (arith, c .before .before .before .before .before .before .before .before .before .before .before .before .before .before .before .pre .0 .few-rows)
 
 slice-aggregate-tags-tile-2 : tie.Need-slice-aggregate-tags-tile-2
 slice-aggregate-tags-tile-2 c = search needs
@@ -128,15 +128,15 @@ draw-nine-spec =
     ring-requires
     slice-aggregate-enlarge
     enlarge-requires
-    mul-t15
-    mul-t16
-    sub-t17
+    mul-t17
     mul-t18
-    sub-tags-tile
-    mul-tags-tile
+    sub-t19
+    mul-t20
+    sub-t21
+    mul-t22
+    mul-k
+    mul-r
     slice-aggregate-tags-tile
-    mul-tags-tile-2
-    mul-tags-tile-3
     slice-aggregate-tags-tile-2
     tags-tile-requires
     slice-aggregate-draw-rows
