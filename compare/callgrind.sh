@@ -1,6 +1,6 @@
 #!/bin/bash
 # Instructions a pixel of the picture, at 64 a side, of the original and of the library; and those of one changed pixel, its paint
-# and its refresh, at 256 a side. Needs valgrind; the counts repeat.
+# and its refresh, at 256 a side, in a session and in a nine-times one. Needs valgrind; the counts repeat.
 set -eu
 here=$(cd "$(dirname "$0")" && pwd)
 side=64
@@ -27,8 +27,10 @@ for call in scale scale9x; do
         }'
     done
 done
-for picture in page noise; do
-    awk -v p="$picture" -v b="$(count "*change_pixel*" change "$picture" 256)" 'BEGIN {
-        printf "change   %-6s library %9.0f instructions for one changed pixel\n", p, b
-    }'
+for call in change change9; do
+    for picture in page noise; do
+        awk -v c="$call" -v p="$picture" -v b="$(count "*change_pixel*" "$call" "$picture" 256)" 'BEGIN {
+            printf "%-8s %-6s library %9.0f instructions for one changed pixel\n", c, p, b
+        }'
+    done
 done

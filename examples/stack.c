@@ -36,6 +36,35 @@ static uint32_t page_w, page_h;
 
 static uint8_t *stack;
 
+/* The calls of a session, three times or nine times, and the output that they are lent. */
+struct session {
+    uint32_t (*open)(uint32_t, uint32_t, uint32_t, float, const uint32_t *, size_t, uint32_t *, size_t, uint8_t *,
+                     size_t, uint32_t *, uint32_t *);
+    uint32_t (*lock)(const uint32_t *, uint32_t, uint32_t, uint32_t, uint32_t, uint32_t *);
+    uint32_t (*paint)(const uint32_t *, uint32_t *, size_t, uint8_t *, size_t, uint32_t, uint32_t, uint32_t, uint32_t *,
+                      uint32_t *);
+    uint32_t (*paint_list)(const uint32_t *, uint32_t *, size_t, uint8_t *, size_t, const struct panel_item *, size_t,
+                           uint32_t *);
+    uint32_t (*refresh)(const uint32_t *, const uint32_t *, size_t, uint32_t *, size_t, uint8_t *, size_t, uint32_t,
+                        uint32_t *, uint32_t *);
+    uint32_t (*show)(const uint32_t *, const uint32_t *, size_t, const uint8_t *, size_t, uint32_t, uint32_t,
+                     uint32_t *);
+    uint32_t *output;
+    size_t output_len;
+};
+
+static const struct session three = {
+    panel_open, panel_lock, panel_paint, panel_paint_list, panel_refresh, panel_show,
+    output, PANEL_OUTPUT_LEN(W, H),
+};
+static const struct session nine = {
+    panel9_open, panel9_lock, panel9_paint, panel9_paint_list, panel9_refresh, panel9_show,
+    output9, PANEL_OUTPUT9_LEN(W, H),
+};
+
+/* The session whose calls are measured. */
+static const struct session *session;
+
 static void require(int holds, const char *what)
 {
     if (holds)
@@ -50,16 +79,18 @@ static void call_open(void)
 {
     uint32_t stale;
 
-    require(panel_open(W, H, clarity, threshold, picture, PANEL_PICTURE_LEN(W, H), output, PANEL_OUTPUT_LEN(W, H),
-                       marks, PANEL_MARKS_LEN(W, H), header, &stale) == PANEL_NONE, "open was refused");
+    require(session->open(W, H, clarity, threshold, picture, PANEL_PICTURE_LEN(W, H), session->output,
+                          session->output_len, marks, PANEL_MARKS_LEN(W, H), header, &stale) == PANEL_NONE,
+            "open was refused");
 }
 
 static void call_refresh(uint32_t n)
 {
     uint32_t drawn, left;
 
-    require(panel_refresh(header, picture, PANEL_PICTURE_LEN(W, H), output, PANEL_OUTPUT_LEN(W, H), marks,
-                          PANEL_MARKS_LEN(W, H), n, &drawn, &left) == PANEL_NONE && drawn != 0, "refresh drew nothing");
+    require(session->refresh(header, picture, PANEL_PICTURE_LEN(W, H), session->output, session->output_len, marks,
+                             PANEL_MARKS_LEN(W, H), n, &drawn, &left) == PANEL_NONE && drawn != 0,
+            "refresh drew nothing");
 }
 
 static void call_refresh_some(void) { call_refresh(3 * W / 2); }
@@ -70,8 +101,8 @@ static void call_paint(void)
 {
     uint32_t changed, stale, word = ~picture[20 * W + 33];
 
-    require(panel_paint(header, picture, PANEL_PICTURE_LEN(W, H), marks, PANEL_MARKS_LEN(W, H), 33, 20, word, &changed,
-                        &stale) == PANEL_NONE && changed == 1, "paint changed nothing");
+    require(session->paint(header, picture, PANEL_PICTURE_LEN(W, H), marks, PANEL_MARKS_LEN(W, H), 33, 20, word,
+                           &changed, &stale) == PANEL_NONE && changed == 1, "paint changed nothing");
 }
 
 static void call_paint_list(void)
@@ -81,15 +112,16 @@ static void call_paint_list(void)
 
     for (uint32_t i = 0; i < PANEL_LIST_LEN; i++)
         items[i] = (struct panel_item){i, 3, ~picture[3 * W + i]};
-    require(panel_paint_list(header, picture, PANEL_PICTURE_LEN(W, H), marks, PANEL_MARKS_LEN(W, H), items,
-                             PANEL_LIST_LEN, &stale) == PANEL_NONE && stale != 0, "the list of paints changed nothing");
+    require(session->paint_list(header, picture, PANEL_PICTURE_LEN(W, H), marks, PANEL_MARKS_LEN(W, H), items,
+                                PANEL_LIST_LEN, &stale) == PANEL_NONE && stale != 0,
+            "the list of paints changed nothing");
 }
 
 static void call_show(void)
 {
-    uint32_t words[PANEL_BLOCK_WORDS];
+    uint32_t words[PANEL_BLOCK9_WORDS];
 
-    require(panel_show(header, output, PANEL_OUTPUT_LEN(W, H), marks, PANEL_MARKS_LEN(W, H), 33, 20, words)
+    require(session->show(header, session->output, session->output_len, marks, PANEL_MARKS_LEN(W, H), 33, 20, words)
                 == PANEL_NONE, "show was refused");
 }
 
@@ -97,7 +129,7 @@ static void call_lock(void)
 {
     uint32_t locked[PANEL_HEADER_LEN];
 
-    require(panel_lock(header, 33, 20, W - 33, H - 20, locked) == PANEL_NONE, "lock was refused");
+    require(session->lock(header, 33, 20, W - 33, H - 20, locked) == PANEL_NONE, "lock was refused");
 }
 
 static void call_scale(void)
@@ -141,25 +173,35 @@ static void call_too_deep(void)
         deep[i] = 0;
 }
 
-/* In an order in which each finds what it needs: the session is open, and what is shown was drawn. */
+/* In an order in which each finds what it needs: the session is open, and what is shown was drawn. The nine-times one
+   is opened where the other is done. Calls of no session need none. */
 static const struct {
     const char *name;
     void (*call)(void);
+    const struct session *session;
 } calls[] = {
-    {"read_page", call_read_page},
-    {"open", call_open},
-    {"refresh of some rows", call_refresh_some},
-    {"refresh of everything", call_refresh_all},
-    {"paint", call_paint},
-    {"paint_list", call_paint_list},
-    {"refresh of the changes", call_refresh_all},
-    {"show", call_show},
-    {"lock", call_lock},
-    {"scale", call_scale},
-    {"scale9x", call_scale9x},
-    {"root", call_root},
-    {"distance", call_distance},
-    {"version", call_version},
+    {"read_page", call_read_page, NULL},
+    {"open", call_open, &three},
+    {"refresh of some rows", call_refresh_some, &three},
+    {"refresh of everything", call_refresh_all, &three},
+    {"paint", call_paint, &three},
+    {"paint_list", call_paint_list, &three},
+    {"refresh of the changes", call_refresh_all, &three},
+    {"show", call_show, &three},
+    {"lock", call_lock, &three},
+    {"open, nine times", call_open, &nine},
+    {"refresh of some rows, nine times", call_refresh_some, &nine},
+    {"refresh of everything, nine times", call_refresh_all, &nine},
+    {"paint, nine times", call_paint, &nine},
+    {"paint_list, nine times", call_paint_list, &nine},
+    {"refresh of the changes, nine times", call_refresh_all, &nine},
+    {"show, nine times", call_show, &nine},
+    {"lock, nine times", call_lock, &nine},
+    {"scale", call_scale, NULL},
+    {"scale9x", call_scale9x, NULL},
+    {"root", call_root, NULL},
+    {"distance", call_distance, NULL},
+    {"version", call_version, NULL},
 };
 
 enum { CALLS = sizeof calls / sizeof calls[0] };
@@ -228,8 +270,10 @@ static void read_file(const char *path)
 static void measure_calls(size_t most[CALLS])
 {
     for (size_t i = 0; i < CALLS; i++) {
-        size_t taken = taken_by(calls[i].call);
+        size_t taken;
 
+        session = calls[i].session;
+        taken = taken_by(calls[i].call);
         most[i] = taken > most[i] ? taken : most[i];
     }
 }

@@ -63,6 +63,8 @@
  * first refresh of everything took a little more than twice as long as panel_scale; one changed pixel, its paint and
  * its refresh, took less than a hundredth of panel_scale. So, where most of a page changes, do not paint every pixel:
  * store the words in the picture and open anew, which takes one opening and one refresh of everything.
+ * In a nine-times session a changed pixel makes at most 272 blocks stale, a rectangle round it; the first refresh of
+ * everything took less than four times as long as panel_scale9x, one changed pixel less than a fiftieth of it.
  */
 #ifndef PANEL_H
 #define PANEL_H
@@ -75,14 +77,14 @@ extern "C" {
 #endif
 
 /* The version of this header: major * 10000 + minor * 100 + patch, and the three with points between. */
-#define PANEL_VERSION 600u
-#define PANEL_VERSION_STRING "0.6.0"
+#define PANEL_VERSION 700u
+#define PANEL_VERSION_STRING "0.7.0"
 
 /*
  * No call takes more bytes of stack than this. It is measured, not proved: examples/stack.c, with what memcpy and memset
  * of the C library take counted, and without what a dynamic linker takes that looks them up at their first call.
  */
-#define PANEL_STACK_BYTES 24576u
+#define PANEL_STACK_BYTES 32768u
 
 #define PANEL_NONE 0u      /* not refused */
 #define PANEL_SIDE 1u      /* a side past its limit */
@@ -103,7 +105,7 @@ extern "C" {
 #define PANEL_GATED 2u     /* clarity: a threshold behind a gate */
 
 #define PANEL_SIDE_3X 2048u /* the largest side of panel_scale, of a session and of a page */
-#define PANEL_SIDE_9X 682u  /* the largest side of panel_scale9x */
+#define PANEL_SIDE_9X 682u  /* the largest side of panel_scale9x and of a nine-times session */
 
 /* The lengths of the buffers, in elements, for a picture of w by h. None wraps for sides up to 2 to the 28th. */
 #define PANEL_PICTURE_LEN(w, h) ((size_t)(w) * (size_t)(h))
@@ -112,7 +114,7 @@ extern "C" {
 #define PANEL_SINGLES_LEN(w, h) ((size_t)8 * PANEL_PICTURE_LEN(w, h))
 #define PANEL_BYTES_LEN(w, h) ((size_t)8 * PANEL_PICTURE_LEN(w, h))
 
-/* The lengths of those of panel_scale9x. */
+/* The lengths of those of panel_scale9x; the first is that of a nine-times session too. */
 #define PANEL_OUTPUT9_LEN(w, h) ((size_t)81 * PANEL_PICTURE_LEN(w, h))
 #define PANEL_MIDDLE9_LEN(w, h) ((size_t)9 * PANEL_PICTURE_LEN(w, h))
 #define PANEL_SINGLES9_LEN(w, h) ((size_t)72 * PANEL_PICTURE_LEN(w, h))
@@ -128,6 +130,7 @@ extern "C" {
 #define PANEL_HEADER_CLARITY 6   /* the place of the clarity in it */
 #define PANEL_HEADER_THRESHOLD 7 /* the place of the threshold's bit pattern in it */
 #define PANEL_BLOCK_WORDS 9u     /* the words of a block */
+#define PANEL_BLOCK9_WORDS 81u   /* the words of a block of a nine-times session */
 #define PANEL_LIST_LEN 64u       /* the most items of a list of paints */
 
 /*
@@ -309,6 +312,72 @@ uint32_t panel_show(const uint32_t header[PANEL_HEADER_LEN],
                     const uint32_t *output, size_t output_len,
                     const uint8_t *marks, size_t marks_len,
                     uint32_t bx, uint32_t by, uint32_t words[PANEL_BLOCK_WORDS]);
+
+/*
+ * A nine-times session keeps an output nine times the size of its picture. Its six calls have the names of the six above
+ * with panel9_ in front. What is said there, of the header, the lock, the buffers, the answers, and the refusals and their
+ * order, is said of these too, but for this:
+ *   sides    at most 682 each; refusal 1 past that
+ *   output   81wh words: 9h rows of 9w. Block (bx, by) is the 81 words in rows 9by to 9by+8 and columns 9bx to 9bx+8
+ *   drawing  a block that is not stale shows what panel_scale9x draws there for the present picture at the session's
+ *            clarity
+ * A header does not tell which of the two it is of. Lent to a call of the other, it is refused or taken as that of a
+ * session there: nothing is read or written outside the buffers, but blocks may be shown that were never drawn, as the two
+ * outputs are laid out differently. So a session keeps to the calls of the kind that opened it.
+ */
+
+/*
+ * Opens a nine-times session, as panel_open does a session.
+ *   output   81wh words, written: 0
+ */
+uint32_t panel9_open(uint32_t w, uint32_t h,
+                     uint32_t clarity, float threshold,
+                     const uint32_t *picture, size_t picture_len,
+                     uint32_t *output, size_t output_len,
+                     uint8_t *marks, size_t marks_len,
+                     uint32_t header[PANEL_HEADER_LEN], uint32_t *stale);
+
+/* Locks a rectangle, as panel_lock does. */
+uint32_t panel9_lock(const uint32_t header[PANEL_HEADER_LEN],
+                     uint32_t left, uint32_t top, uint32_t width, uint32_t height,
+                     uint32_t locked[PANEL_HEADER_LEN]);
+
+/*
+ * Paints one pixel, as panel_paint does.
+ *   marks     where the word was another, 1 is written at each block (bx, by) inside the picture that has bx within 8 of
+ *             column and by from row-7 to row+8; else nothing
+ */
+uint32_t panel9_paint(const uint32_t header[PANEL_HEADER_LEN],
+                      uint32_t *picture, size_t picture_len,
+                      uint8_t *marks, size_t marks_len,
+                      uint32_t column, uint32_t row, uint32_t word,
+                      uint32_t *changed, uint32_t *stale);
+
+/* Paints several pixels, all or none: to panel9_paint what panel_paint_list is to panel_paint. */
+uint32_t panel9_paint_list(const uint32_t header[PANEL_HEADER_LEN],
+                           uint32_t *picture, size_t picture_len,
+                           uint8_t *marks, size_t marks_len,
+                           const struct panel_item *items, size_t items_len,
+                           uint32_t *stale);
+
+/*
+ * Draws stale blocks, as panel_refresh does.
+ *   output   81 words are written for each block drawn
+ */
+uint32_t panel9_refresh(const uint32_t header[PANEL_HEADER_LEN],
+                        const uint32_t *picture, size_t picture_len,
+                        uint32_t *output, size_t output_len,
+                        uint8_t *marks, size_t marks_len,
+                        uint32_t n, uint32_t *drawn, uint32_t *left);
+
+/*
+ * The 81 words of one block, row by row, as panel_show has nine.
+ *   words    the block; 81 times 0 beside a refusal
+ */
+uint32_t panel9_show(const uint32_t header[PANEL_HEADER_LEN],
+                     const uint32_t *output, size_t output_len,
+                     const uint8_t *marks, size_t marks_len,
+                     uint32_t bx, uint32_t by, uint32_t words[PANEL_BLOCK9_WORDS]);
 
 /*
  * Reads a page file: pixels as little-endian words, then a trailer of 12 bytes at the end of the file: w and h, 16

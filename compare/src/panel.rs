@@ -22,6 +22,28 @@ impl Setting {
     }
 }
 
+/// How many times a picture is enlarged; a session's screen, which has calls of its own.
+#[derive(Clone, Copy, Debug, PartialEq, Eq)]
+pub enum Screen {
+    Three,
+    Nine,
+}
+
+impl Screen {
+    /// The words along a side of a block.
+    pub fn side(self) -> usize {
+        match self {
+            Screen::Three => 3,
+            Screen::Nine => 9,
+        }
+    }
+
+    /// The words of a block.
+    pub fn block(self) -> usize {
+        self.side() * self.side()
+    }
+}
+
 /// One paint of a list, as the C header has it.
 #[repr(C)]
 #[derive(Clone, Copy, Debug, PartialEq, Eq)]
@@ -67,72 +89,6 @@ mod c {
             bytes: *mut u8,
             bytes_len: usize,
         ) -> u32;
-        pub fn panel_open(
-            w: u32,
-            h: u32,
-            clarity: u32,
-            threshold: c_float,
-            picture: *const u32,
-            picture_len: usize,
-            output: *mut u32,
-            output_len: usize,
-            marks: *mut u8,
-            marks_len: usize,
-            header: *mut Header,
-            stale: *mut u32,
-        ) -> u32;
-        pub fn panel_paint(
-            header: *const Header,
-            picture: *mut u32,
-            picture_len: usize,
-            marks: *mut u8,
-            marks_len: usize,
-            column: u32,
-            row: u32,
-            word: u32,
-            changed: *mut u32,
-            stale: *mut u32,
-        ) -> u32;
-        pub fn panel_paint_list(
-            header: *const Header,
-            picture: *mut u32,
-            picture_len: usize,
-            marks: *mut u8,
-            marks_len: usize,
-            items: *const Item,
-            items_len: usize,
-            stale: *mut u32,
-        ) -> u32;
-        pub fn panel_refresh(
-            header: *const Header,
-            picture: *const u32,
-            picture_len: usize,
-            output: *mut u32,
-            output_len: usize,
-            marks: *mut u8,
-            marks_len: usize,
-            n: u32,
-            drawn: *mut u32,
-            left: *mut u32,
-        ) -> u32;
-        pub fn panel_show(
-            header: *const Header,
-            output: *const u32,
-            output_len: usize,
-            marks: *const u8,
-            marks_len: usize,
-            bx: u32,
-            by: u32,
-            words: *mut [u32; 9],
-        ) -> u32;
-        pub fn panel_lock(
-            header: *const Header,
-            left: u32,
-            top: u32,
-            width: u32,
-            height: u32,
-            locked: *mut Header,
-        ) -> u32;
         pub fn panel_read_page(
             file: *const u8,
             file_len: usize,
@@ -142,6 +98,83 @@ mod c {
             h: *mut u32,
         ) -> u32;
     }
+
+    /// Declares the six calls of a session: those of the two screens differ by their names alone.
+    macro_rules! session {
+        ($open:ident, $lock:ident, $paint:ident, $paint_list:ident, $refresh:ident, $show:ident) => {
+            extern "C" {
+                pub fn $open(
+                    w: u32,
+                    h: u32,
+                    clarity: u32,
+                    threshold: c_float,
+                    picture: *const u32,
+                    picture_len: usize,
+                    output: *mut u32,
+                    output_len: usize,
+                    marks: *mut u8,
+                    marks_len: usize,
+                    header: *mut Header,
+                    stale: *mut u32,
+                ) -> u32;
+                pub fn $paint(
+                    header: *const Header,
+                    picture: *mut u32,
+                    picture_len: usize,
+                    marks: *mut u8,
+                    marks_len: usize,
+                    column: u32,
+                    row: u32,
+                    word: u32,
+                    changed: *mut u32,
+                    stale: *mut u32,
+                ) -> u32;
+                pub fn $paint_list(
+                    header: *const Header,
+                    picture: *mut u32,
+                    picture_len: usize,
+                    marks: *mut u8,
+                    marks_len: usize,
+                    items: *const Item,
+                    items_len: usize,
+                    stale: *mut u32,
+                ) -> u32;
+                pub fn $refresh(
+                    header: *const Header,
+                    picture: *const u32,
+                    picture_len: usize,
+                    output: *mut u32,
+                    output_len: usize,
+                    marks: *mut u8,
+                    marks_len: usize,
+                    n: u32,
+                    drawn: *mut u32,
+                    left: *mut u32,
+                ) -> u32;
+                pub fn $show(
+                    header: *const Header,
+                    output: *const u32,
+                    output_len: usize,
+                    marks: *const u8,
+                    marks_len: usize,
+                    bx: u32,
+                    by: u32,
+                    words: *mut u32,
+                ) -> u32;
+                pub fn $lock(
+                    header: *const Header,
+                    left: u32,
+                    top: u32,
+                    width: u32,
+                    height: u32,
+                    locked: *mut Header,
+                ) -> u32;
+            }
+        };
+    }
+
+    session!(panel_open, panel_lock, panel_paint, panel_paint_list, panel_refresh, panel_show);
+    session!(panel9_open, panel9_lock, panel9_paint, panel9_paint_list, panel9_refresh, panel9_show);
 }
 
 /// What the numbers behind pointers hold before a call: a call must write every one of them.
@@ -227,11 +260,22 @@ pub struct Opened {
     pub stale: u32,
 }
 
-pub fn open([w, h]: [u32; 2], setting: Setting, picture: &[u32], output: &mut [u32], marks: &mut [u8]) -> Opened {
+pub fn open(
+    screen: Screen,
+    [w, h]: [u32; 2],
+    setting: Setting,
+    picture: &[u32],
+    output: &mut [u32],
+    marks: &mut [u8],
+) -> Opened {
+    let call = match screen {
+        Screen::Three => c::panel_open,
+        Screen::Nine => c::panel9_open,
+    };
     let mut header = [UNWRITTEN; 8];
     let mut stale = UNWRITTEN;
     let refusal = unsafe {
-        c::panel_open(
+        call(
             w,
             h,
             setting.kind,
@@ -256,10 +300,15 @@ pub struct Painted {
     pub stale: u32,
 }
 
-pub fn paint(header: Header, picture: &mut [u32], marks: &mut [u8], column: u32, row: u32, word: u32) -> Painted {
+pub fn paint(screen: Screen, header: Header, picture: &mut [u32], marks: &mut [u8], item: Item) -> Painted {
+    let call = match screen {
+        Screen::Three => c::panel_paint,
+        Screen::Nine => c::panel9_paint,
+    };
+    let Item { column, row, word } = item;
     let (mut changed, mut stale) = (UNWRITTEN, UNWRITTEN);
     let refusal = lend(header, |header| unsafe {
-        c::panel_paint(
+        call(
             header,
             picture.as_mut_ptr(),
             picture.len(),
@@ -281,10 +330,20 @@ pub struct PaintedList {
     pub stale: u32,
 }
 
-pub fn paint_list(header: Header, picture: &mut [u32], marks: &mut [u8], items: &[Item]) -> PaintedList {
+pub fn paint_list(
+    screen: Screen,
+    header: Header,
+    picture: &mut [u32],
+    marks: &mut [u8],
+    items: &[Item],
+) -> PaintedList {
+    let call = match screen {
+        Screen::Three => c::panel_paint_list,
+        Screen::Nine => c::panel9_paint_list,
+    };
     let mut stale = UNWRITTEN;
     let refusal = lend(header, |header| unsafe {
-        c::panel_paint_list(
+        call(
             header,
             picture.as_mut_ptr(),
             picture.len(),
@@ -305,10 +364,21 @@ pub struct Refreshed {
     pub left: u32,
 }
 
-pub fn refresh(header: Header, picture: &[u32], output: &mut [u32], marks: &mut [u8], n: u32) -> Refreshed {
+pub fn refresh(
+    screen: Screen,
+    header: Header,
+    picture: &[u32],
+    output: &mut [u32],
+    marks: &mut [u8],
+    n: u32,
+) -> Refreshed {
+    let call = match screen {
+        Screen::Three => c::panel_refresh,
+        Screen::Nine => c::panel9_refresh,
+    };
     let (mut drawn, mut left) = (UNWRITTEN, UNWRITTEN);
     let refusal = lend(header, |header| unsafe {
-        c::panel_refresh(
+        call(
             header,
             picture.as_ptr(),
             picture.len(),
@@ -327,14 +397,23 @@ pub fn refresh(header: Header, picture: &[u32], output: &mut [u32], marks: &mut 
 #[derive(Debug, PartialEq, Eq)]
 pub struct Shown {
     pub refusal: u32,
-    pub words: [u32; 9],
+    pub words: Vec<u32>,
 }
 
-pub fn show(header: Header, output: &[u32], marks: &[u8], bx: u32, by: u32) -> Shown {
-    let mut words = [UNWRITTEN; 9];
+/// Words behind those of a block, which a show has to leave as they are.
+const BEHIND: usize = 16;
+
+pub fn show(screen: Screen, header: Header, output: &[u32], marks: &[u8], bx: u32, by: u32) -> Shown {
+    let call = match screen {
+        Screen::Three => c::panel_show,
+        Screen::Nine => c::panel9_show,
+    };
+    let mut words = vec![UNWRITTEN; screen.block() + BEHIND];
     let refusal = lend(header, |header| unsafe {
-        c::panel_show(header, output.as_ptr(), output.len(), marks.as_ptr(), marks.len(), bx, by, &mut words)
+        call(header, output.as_ptr(), output.len(), marks.as_ptr(), marks.len(), bx, by, words.as_mut_ptr())
     });
+    let behind = words.split_off(screen.block());
+    assert_eq!(behind, [UNWRITTEN; BEHIND], "words behind a block have been written");
     Shown { refusal, words }
 }
 
@@ -344,9 +423,13 @@ pub struct Locked {
     pub header: Header,
 }
 
-pub fn lock(header: Header, [left, top, width, height]: [u32; 4]) -> Locked {
+pub fn lock(screen: Screen, header: Header, [left, top, width, height]: [u32; 4]) -> Locked {
+    let call = match screen {
+        Screen::Three => c::panel_lock,
+        Screen::Nine => c::panel9_lock,
+    };
     let mut locked = [UNWRITTEN; 8];
-    let refusal = lend(header, |header| unsafe { c::panel_lock(header, left, top, width, height, &mut locked) });
+    let refusal = lend(header, |header| unsafe { call(header, left, top, width, height, &mut locked) });
     Locked { refusal, header: locked }
 }
 

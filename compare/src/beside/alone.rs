@@ -2,10 +2,11 @@
 
 use super::drawing;
 use super::lent::{Bits, Lent};
-use super::machine::{header, lock_of, names, past, setting_of, Answer, Call, Rectangle, ITEMS, NONE};
+use super::machine::{header, lock_of, past, setting_of, Answer, Call, Rectangle, ITEMS, NONE};
 use super::plain::Clarity;
+use super::random::Random;
 use super::setting::{answered, meant};
-use crate::panel::{self, Header, Item, Setting};
+use crate::panel::{self, Header, Item, Screen, Setting};
 
 /// The buffers of a session, as they are lent or as they are left.
 #[derive(Clone)]
@@ -16,6 +17,22 @@ pub struct Buffers {
 }
 
 impl Buffers {
+    /// A picture buffer that starts with these words, and the others of any contents, with these lengths: picture, output,
+    /// marks.
+    pub fn on(first: &[u32], [picture, output, marks]: [usize; 3], random: &mut Random) -> Buffers {
+        Buffers {
+            picture: Lent::with(first, picture, random),
+            output: Lent::new(output, random),
+            marks: Lent::new(marks, random),
+        }
+    }
+
+    /// What the library answers to an opening.
+    pub fn open(&mut self, screen: Screen, sides: [u32; 2], setting: Setting) -> panel::Opened {
+        let (picture, output, marks) = (self.picture.part(), self.output.part_mut(), self.marks.part_mut());
+        panel::open(screen, sides, setting, picture, output, marks)
+    }
+
     /// A line on the first element that is not as expected.
     pub fn difference(&self, expected: &Buffers) -> Option<String> {
         place("picture", &self.picture, &expected.picture)
@@ -24,10 +41,12 @@ impl Buffers {
     }
 
     /// What the library answers, as the machine would say it; numbers beside a refusal must be 0.
-    pub fn call(&mut self, header: Header, call: &Call) -> Result<Answer, String> {
+    pub fn call(&mut self, screen: Screen, header: Header, call: &Call) -> Result<Answer, String> {
+        let (picture, output, marks) = (&mut self.picture, &mut self.output, &mut self.marks);
         let (refusal, beside, answer) = match *call {
             Call::Paint { column, row, word } => {
-                let a = panel::paint(header, self.picture.part_mut(), self.marks.part_mut(), column, row, word);
+                let item = Item { column, row, word };
+                let a = panel::paint(screen, header, picture.part_mut(), marks.part_mut(), item);
                 let answer = match a.changed {
                     0 => Answer::Unchanged { stale: a.stale },
                     1 => Answer::Painted { stale: a.stale },
@@ -36,19 +55,19 @@ impl Buffers {
                 (a.refusal, a.changed | a.stale, answer)
             }
             Call::PaintList { ref items } => {
-                let a = panel::paint_list(header, self.picture.part_mut(), self.marks.part_mut(), items);
+                let a = panel::paint_list(screen, header, picture.part_mut(), marks.part_mut(), items);
                 (a.refusal, a.stale, Answer::PaintedList { stale: a.stale })
             }
             Call::Refresh { n } => {
-                let a = panel::refresh(header, self.picture.part(), self.output.part_mut(), self.marks.part_mut(), n);
+                let a = panel::refresh(screen, header, picture.part(), output.part_mut(), marks.part_mut(), n);
                 (a.refusal, a.drawn | a.left, Answer::Refreshed { drawn: a.drawn, left: a.left })
             }
             Call::Show { bx, by } => {
-                let a = panel::show(header, self.output.part(), self.marks.part(), bx, by);
+                let a = panel::show(screen, header, output.part(), marks.part(), bx, by);
                 (a.refusal, any_bit(&a.words), Answer::Shown(a.words))
             }
             Call::Lock { lock } => {
-                let a = panel::lock(header, lock);
+                let a = panel::lock(screen, header, lock);
                 (a.refusal, any_bit(&a.header), Answer::Locked(a.header))
             }
         };
@@ -85,17 +104,17 @@ struct Lengths {
 
 /// The refusal of a header and of sizes: sides, the header's lock and the one given, then the buffers that the call is
 /// lent, then the setting.
-fn sizes(header: Header, given: Rectangle, lengths: Lengths) -> u32 {
+fn sizes(screen: Screen, header: Header, given: Rectangle, lengths: Lengths) -> u32 {
     let [w, h, ..] = header;
     let wh = u64::from(w) * u64::from(h);
-    let short = |len: Option<usize>, each: u64| len.is_some_and(|len| (len as u64) < each * wh);
-    if w > 2048 || h > 2048 {
+    let short = |len: Option<usize>, each: usize| len.is_some_and(|len| (len as u64) < each as u64 * wh);
+    if w > screen.limit() || h > screen.limit() {
         1
     } else if past(lock_of(header), w, h) || past(given, w, h) {
         10
     } else if short(lengths.picture, 1) {
         2
-    } else if short(lengths.output, 9) {
+    } else if short(lengths.output, screen.block()) {
         3
     } else if short(lengths.marks, 1) {
         4
@@ -120,10 +139,10 @@ fn asked(buffers: &Buffers, call: &Call) -> (Lengths, Option<(u32, u32)>) {
 }
 
 /// What one call answers, and what it leaves in the buffers.
-fn alone(header: Header, buffers: &mut Buffers, call: &Call) -> Answer {
+fn alone(screen: Screen, header: Header, buffers: &mut Buffers, call: &Call) -> Answer {
     let (lengths, at) = asked(buffers, call);
     let given = if let Call::Lock { lock } = *call { lock } else { NONE };
-    let refusal = sizes(header, given, lengths);
+    let refusal = sizes(screen, header, given, lengths);
     if refusal != 0 {
         return Answer::Refused(refusal);
     }
@@ -133,10 +152,10 @@ fn alone(header: Header, buffers: &mut Buffers, call: &Call) -> Answer {
     let (w, h) = (header[0] as usize, header[1] as usize);
     let clarity = meant(setting_of(header)).expect("a setting that was not refused");
     match *call {
-        Call::Paint { column, row, word } => paint(header, buffers, (column, row), word),
-        Call::PaintList { ref items } => paint_list(header, buffers, items),
-        Call::Refresh { n } => refresh(clarity, [w, h], buffers, n),
-        Call::Show { bx, by } => show(w, buffers, bx as usize, by as usize),
+        Call::Paint { column, row, word } => paint(screen, header, buffers, Item { column, row, word }),
+        Call::PaintList { ref items } => paint_list(screen, header, buffers, items),
+        Call::Refresh { n } => refresh(screen, clarity, [w, h], buffers, n),
+        Call::Show { bx, by } => show(screen, w, buffers, (bx as usize, by as usize)),
         Call::Lock { lock } => locked(header, lock),
     }
 }
@@ -146,7 +165,8 @@ fn count(marks: &[u8]) -> u32 {
     marks.iter().filter(|&&mark| mark != 0).count() as u32
 }
 
-fn paint([w, h, left, top, width, height, ..]: Header, buffers: &mut Buffers, (x, y): (u32, u32), word: u32) -> Answer {
+fn paint(screen: Screen, header: Header, buffers: &mut Buffers, item: Item) -> Answer {
+    let ([w, h, left, top, width, height, ..], Item { column: x, row: y, word }) = (header, item);
     let (columns, position) = (w as usize, (x as usize, y as usize));
     let marks = &mut buffers.marks.part_mut()[..columns * h as usize];
     let here = &mut buffers.picture.part_mut()[position.1 * columns + position.0];
@@ -159,7 +179,7 @@ fn paint([w, h, left, top, width, height, ..]: Header, buffers: &mut Buffers, (x
     }
     *here = word;
     for (at, mark) in marks.iter_mut().enumerate() {
-        if names(position, (at % columns, at / columns)) {
+        if screen.names(position, (at % columns, at / columns)) {
             *mark = 1;
         }
     }
@@ -167,16 +187,16 @@ fn paint([w, h, left, top, width, height, ..]: Header, buffers: &mut Buffers, (x
 }
 
 /// On a copy, which takes the buffers' place only where every item was taken.
-fn paint_list(header: Header, buffers: &mut Buffers, items: &[Item]) -> Answer {
+fn paint_list(screen: Screen, header: Header, buffers: &mut Buffers, items: &[Item]) -> Answer {
     if items.len() > ITEMS {
         return Answer::Refused(12);
     }
     let mut copy = buffers.clone();
-    for &Item { column, row, word } in items {
-        if column >= header[0] || row >= header[1] {
+    for &item in items {
+        if item.column >= header[0] || item.row >= header[1] {
             return Answer::Refused(5);
         }
-        if let Answer::Refused(number) = paint(header, &mut copy, (column, row), word) {
+        if let Answer::Refused(number) = paint(screen, header, &mut copy, item) {
             return Answer::Refused(number);
         }
     }
@@ -188,56 +208,57 @@ fn locked(lent: Header, lock: Rectangle) -> Answer {
     Answer::Locked(header([lent[0], lent[1]], lock, answered(setting_of(lent))))
 }
 
-fn refresh(clarity: Clarity, [w, h]: [usize; 2], buffers: &mut Buffers, n: u32) -> Answer {
-    let whole = drawing::words(clarity, &buffers.picture.part()[..w * h], w, h);
-    let (output, marks) = (buffers.output.part_mut(), &mut buffers.marks.part_mut()[..w * h]);
+fn refresh(screen: Screen, clarity: Clarity, [w, h]: [usize; 2], buffers: &mut Buffers, n: u32) -> Answer {
+    let whole = drawing::words(screen, clarity, &buffers.picture.part()[..w * h], w, h);
+    let (output, marks, side) = (buffers.output.part_mut(), &mut buffers.marks.part_mut()[..w * h], screen.side());
     let mut drawn = 0;
     for (at, mark) in marks.iter_mut().enumerate().filter(|(_, mark)| **mark != 0).take(n as usize) {
         *mark = 0;
         drawn += 1;
-        for row in 0..3 {
-            let from = (3 * (at / w) + row) * (3 * w) + 3 * (at % w);
-            output[from..from + 3].copy_from_slice(&whole[from..from + 3]);
+        for row in 0..side {
+            let from = (side * (at / w) + row) * (side * w) + side * (at % w);
+            output[from..from + side].copy_from_slice(&whole[from..from + side]);
         }
     }
     Answer::Refreshed { drawn, left: count(marks) }
 }
 
-fn show(w: usize, buffers: &Buffers, bx: usize, by: usize) -> Answer {
+fn show(screen: Screen, w: usize, buffers: &Buffers, (bx, by): (usize, usize)) -> Answer {
     if buffers.marks.part()[by * w + bx] != 0 {
         return Answer::Refused(7);
     }
-    let word = |k: usize| buffers.output.part()[(3 * by + k / 3) * (3 * w) + 3 * bx + k % 3];
-    Answer::Shown(std::array::from_fn(word))
+    Answer::Shown(screen.places(w, (bx, by)).map(|i| buffers.output.part()[i]).collect())
 }
 
-/// One call of the library on these buffers, beside the rules; what both answer.
-pub fn call_alone(header: Header, mut got: Buffers, call: &Call) -> Result<Answer, String> {
+/// One call of a screen on these buffers, beside the rules; what both answer.
+pub fn call_alone(screen: Screen, header: Header, mut got: Buffers, call: &Call) -> Result<Answer, String> {
     let mut expected = got.clone();
-    let said = got.call(header, call);
-    let should = alone(header, &mut expected, call);
-    let text = if said == Ok(should) {
+    let said = got.call(screen, header, call);
+    let should = alone(screen, header, &mut expected, call);
+    let text = if said.as_ref() == Ok(&should) {
         got.difference(&expected)
     } else {
         Some(format!("answered {said:?}, expected {should:?}"))
     };
-    text.map_or(Ok(should), |text| Err(format!("alone, header {header:?}, {call:?}: {text}")))
+    text.map_or(Ok(should), |text| Err(format!("alone, {screen:?} times, header {header:?}, {call:?}: {text}")))
 }
 
-/// One opening by the library on these buffers, beside the rules.
-pub fn opening(sides: [u32; 2], setting: Setting, mut got: Buffers) -> Result<(), String> {
+/// One opening of a screen on these buffers, beside the rules.
+pub fn opening(screen: Screen, sides: [u32; 2], setting: Setting, mut got: Buffers) -> Result<(), String> {
     let mut expected = got.clone();
-    let opened = panel::open(sides, setting, got.picture.part(), got.output.part_mut(), got.marks.part_mut());
-    let refusal = sizes(header(sides, NONE, setting), NONE, got.lengths());
+    let opened = got.open(screen, sides, setting);
+    let refusal = sizes(screen, header(sides, NONE, setting), NONE, got.lengths());
     let mut should = panel::Opened { refusal, header: [0; 8], stale: 0 };
     if refusal == 0 {
         let wh = sides[0] as usize * sides[1] as usize;
         should = panel::Opened { refusal, header: header(sides, NONE, answered(setting)), stale: wh as u32 };
-        expected.output.put(&vec![0; 9 * wh]);
+        expected.output.put(&vec![0; screen.block() * wh]);
         expected.marks.put(&vec![1; wh]);
     }
     let text =
         if opened == should { got.difference(&expected) } else { Some(format!("{opened:?}, expected {should:?}")) };
     let lengths = got.lengths();
-    text.map_or(Ok(()), |text| Err(format!("opening {sides:?} at {setting:?} with {lengths:?}: {text}")))
+    text.map_or(Ok(()), |text| {
+        Err(format!("opening {screen:?} times, {sides:?} at {setting:?} with {lengths:?}: {text}"))
+    })
 }

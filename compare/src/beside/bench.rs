@@ -8,7 +8,7 @@ use super::font;
 use super::original;
 use super::random::Random;
 use super::times::{best, time, Form};
-use crate::panel::{self, Setting, STANDARD};
+use crate::panel::{self, Screen, Setting, STANDARD};
 use std::hint::black_box;
 
 /// Sides by repetitions.
@@ -70,13 +70,20 @@ impl Buffers {
 
 // Kept out of line, so that a profiler finds them by name.
 #[inline(never)]
-pub fn original_scale(picture: &[u32], side: usize) -> Vec<u32> {
+fn original_scale(picture: &[u32], side: usize) -> Vec<u32> {
     original::scale(picture, side, side)
 }
 
 #[inline(never)]
 fn original_scale9x(picture: &[u32], side: usize) -> Vec<u32> {
     original::scale9x(picture, side, side)
+}
+
+pub fn original_whole(screen: Screen, picture: &[u32], side: usize) -> Vec<u32> {
+    match screen {
+        Screen::Three => original_scale(picture, side),
+        Screen::Nine => original_scale9x(picture, side),
+    }
 }
 
 fn row(form: Form, call: &str, name: &str, side: usize, (original, ours): (f64, f64)) {
@@ -112,7 +119,7 @@ fn nine_times(form: Form) {
 }
 
 /// The parts by name.
-const PARTS: [&str; 4] = ["scale", "scale9x", "session", "clarity"];
+const PARTS: [&str; 5] = ["scale", "scale9x", "session", "session9", "clarity"];
 
 /// Prints the times of the parts named, or of all; nothing is compared, and nothing run where a word is no part.
 pub fn run(form: Form, parts: &[&str]) -> Option<bool> {
@@ -129,8 +136,8 @@ pub fn run(form: Form, parts: &[&str]) -> Option<bool> {
     if wanted("scale9x") {
         nine_times(form);
     }
-    if wanted("session") {
-        bench_session::run(form);
+    for screen in [Screen::Three, Screen::Nine].into_iter().filter(|screen| wanted(screen.name())) {
+        bench_session::run(form, screen);
     }
     if wanted("clarity") {
         bench_clarity::run(form);
@@ -153,7 +160,8 @@ pub fn calls(words: &[&str]) -> Option<bool> {
         ("scale9x", true) => Buffers::nine(side * side).scale9x(STANDARD, &picture, side),
         ("scale", false) => drop(black_box(original_scale(&picture, side))),
         ("scale9x", false) => drop(black_box(original_scale9x(&picture, side))),
-        ("change", true) => bench_session::change(&picture, side),
+        ("change", true) => bench_session::change(Screen::Three, &picture, side),
+        ("change9", true) => bench_session::change(Screen::Nine, &picture, side),
         _ => return None,
     }
     Some(true)

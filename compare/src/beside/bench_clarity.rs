@@ -5,7 +5,7 @@ use super::bench::{picture, Buffers, PICTURES};
 use super::bench_session::Session;
 use super::setting::HALF;
 use super::times::{best, median, time, Form};
-use crate::panel::{Setting, STANDARD};
+use crate::panel::{Screen, Setting, STANDARD};
 use std::hint::black_box;
 
 const SIDE: usize = 256;
@@ -56,7 +56,7 @@ fn scale9x(picture: &[u32], setting: Setting) -> (f64, f64) {
 /// The first refresh of everything after opening.
 fn refresh(picture: &[u32], setting: Setting) -> (f64, f64) {
     let drawn = |setting: Setting| {
-        let mut session = Session::open_at(setting, picture, SIDE);
+        let mut session = Session::open_at(Screen::Three, setting, picture, SIDE);
         time(|| assert_eq!(session.refresh_all().left, 0))
     };
     best(REPETITIONS, || drawn(STANDARD), || drawn(setting))
@@ -65,7 +65,7 @@ fn refresh(picture: &[u32], setting: Setting) -> (f64, f64) {
 /// One changed pixel, its paint and its refresh. The two sessions change the same pixels, but not after each other: the one
 /// that comes second to a pixel would find the processor trained to it.
 fn change(picture: &[u32], setting: Setting) -> (f64, f64) {
-    let mut sessions = [STANDARD, setting].map(|setting| Session::open_at(setting, picture, SIDE));
+    let mut sessions = [STANDARD, setting].map(|setting| Session::open_at(Screen::Three, setting, picture, SIDE));
     sessions.iter_mut().for_each(|session| assert_eq!(session.refresh_all().left, 0));
     let mut times = [Vec::new(), Vec::new()];
     for i in 0..CHANGES {

@@ -1,8 +1,9 @@
-//! Times of a session's calls, beside one whole `scale` of the original on the same picture.
+//! Times of a session's calls, beside one whole `scale` of the original on the same picture, or `scale9x` where the session is
+//! of the nine-times screen.
 
-use super::bench::{original_scale, picture, PICTURES};
+use super::bench::{original_whole, picture, PICTURES};
 use super::times::{best, least, median, time, time_short, Form};
-use crate::panel::{self, Item, Setting, STANDARD};
+use crate::panel::{self, Item, Screen, Setting, STANDARD};
 use std::hint::black_box;
 
 /// A square session whose calls are timed.
@@ -13,14 +14,24 @@ struct Square {
     /// Repetitions of one refresh of everything.
     everything: usize,
     /// Refreshes that follow each other until nothing is stale: the blocks drawn by each, and repetitions of them all.
-    slices: [(u32, usize); 2],
+    slices: &'static [(u32, usize)],
 }
 
 /// At 1,024 a side 65,536 refreshes of 16 blocks are needed, and each counts all the marks: seconds, so they run once.
-const SQUARES: [Square; 2] = [
-    Square { side: 256, original: 20, everything: 20, slices: [(16, 8), (256, 8)] },
-    Square { side: 1024, original: 3, everything: 4, slices: [(16, 1), (256, 2)] },
+const THREE: [Square; 2] = [
+    Square { side: 256, original: 20, everything: 20, slices: &[(16, 8), (256, 8)] },
+    Square { side: 1024, original: 3, everything: 4, slices: &[(16, 1), (256, 2)] },
 ];
+
+/// One whole `scale9x` of the original at 256 a side takes as long as nine of its `scale`.
+const NINE: [Square; 1] = [Square { side: 256, original: 4, everything: 8, slices: &[(16, 2)] }];
+
+fn squares(screen: Screen) -> &'static [Square] {
+    match screen {
+        Screen::Three => &THREE,
+        Screen::Nine => &NINE,
+    }
+}
 
 /// Blocks of one slice; the slices of which the middle time is taken, those at the start of a session; the sessions of
 /// which the best is taken.
@@ -29,6 +40,7 @@ const FIRST_SLICES: usize = 64;
 const SESSIONS: usize = 8;
 
 pub struct Session {
+    screen: Screen,
     header: panel::Header,
     picture: Vec<u32>,
     output: Vec<u32>,
@@ -37,20 +49,20 @@ pub struct Session {
 
 impl Session {
     /// Everything is stale at the standard; every buffer has been written.
-    fn open(picture: &[u32], side: usize) -> Session {
-        Session::open_at(STANDARD, picture, side)
+    fn open(screen: Screen, picture: &[u32], side: usize) -> Session {
+        Session::open_at(screen, STANDARD, picture, side)
     }
 
     /// The same at another setting.
-    pub fn open_at(setting: Setting, picture: &[u32], side: usize) -> Session {
-        let (mut output, mut marks) = (vec![1; 9 * side * side], vec![0; side * side]);
-        let opened = panel::open([side as u32; 2], setting, picture, &mut output, &mut marks);
+    pub fn open_at(screen: Screen, setting: Setting, picture: &[u32], side: usize) -> Session {
+        let (mut output, mut marks) = (vec![1; screen.block() * side * side], vec![0; side * side]);
+        let opened = panel::open(screen, [side as u32; 2], setting, picture, &mut output, &mut marks);
         assert_eq!(opened.refusal, 0);
-        Session { header: opened.header, picture: picture.to_vec(), output, marks }
+        Session { screen, header: opened.header, picture: picture.to_vec(), output, marks }
     }
 
     fn refresh(&mut self, n: u32) -> panel::Refreshed {
-        panel::refresh(self.header, &self.picture, &mut self.output, &mut self.marks, n)
+        panel::refresh(self.screen, self.header, &self.picture, &mut self.output, &mut self.marks, n)
     }
 
     pub fn refresh_all(&mut self) -> panel::Refreshed {
@@ -63,7 +75,12 @@ impl Session {
     }
 
     fn paint(&mut self, column: usize, row: usize, word: u32) -> panel::Painted {
-        panel::paint(self.header, &mut self.picture, &mut self.marks, column as u32, row as u32, word)
+        let item = Item { column: column as u32, row: row as u32, word };
+        panel::paint(self.screen, self.header, &mut self.picture, &mut self.marks, item)
+    }
+
+    fn paint_list(&mut self, items: &[Item]) -> panel::PaintedList {
+        panel::paint_list(self.screen, self.header, &mut self.picture, &mut self.marks, items)
     }
 
     /// A paint of another word, and a refresh of all that it makes stale. Never inlined, so that a profiler finds it.
@@ -84,8 +101,8 @@ impl Session {
 }
 
 /// One changed pixel in the middle of a picture of which nothing is stale, to be run under a profiler.
-pub fn change(picture: &[u32], side: usize) {
-    let mut session = Session::open(picture, side);
+pub fn change(screen: Screen, picture: &[u32], side: usize) {
+    let mut session = Session::open(screen, picture, side);
     assert_eq!(session.refresh_all().left, 0);
     let middle = side / 2;
     session.change_pixel(middle, middle, picture[middle * side + middle] ^ 0x00ff_ffff);
@@ -100,23 +117,24 @@ fn read_marks(marks: &[u8]) -> u8 {
 /// One picture's rows.
 struct Bench<'a> {
     form: Form,
+    screen: Screen,
     square: &'a Square,
     name: &'a str,
     picture: Vec<u32>,
-    /// Nanoseconds of one whole `scale` of the original.
+    /// Nanoseconds of one whole enlargement by the original.
     full: f64,
 }
 
 impl<'a> Bench<'a> {
-    fn new(form: Form, square: &'a Square, name: &'a str) -> Bench<'a> {
+    fn new(form: Form, screen: Screen, square: &'a Square, name: &'a str) -> Bench<'a> {
         let picture = picture(name, square.side);
-        let once = |_| time(|| drop(black_box(original_scale(&picture, square.side))));
+        let once = |_| time(|| drop(black_box(original_whole(screen, &picture, square.side))));
         let full = least((0..square.original).map(once));
-        Bench { form, square, name, picture, full }
+        Bench { form, screen, square, name, picture, full }
     }
 
     fn open(&self) -> Session {
-        Session::open(&self.picture, self.square.side)
+        Session::open(self.screen, &self.picture, self.square.side)
     }
 
     fn line(&self, what: &str, ns: f64) -> String {
@@ -130,7 +148,7 @@ impl<'a> Bench<'a> {
     }
 
     fn say(&self, what: &str, ns: f64) {
-        let name = format!("session {} {}: {what}", self.square.side, self.name);
+        let name = format!("{} {} {}: {what}", self.screen.name(), self.square.side, self.name);
         self.form.row(&self.line(what, ns), &name, ns / self.full, ns);
     }
 
@@ -148,7 +166,7 @@ impl<'a> Bench<'a> {
             median((0..FIRST_SLICES).map(|_| time(|| assert_eq!(session.refresh(SLICE).drawn, SLICE))))
         }));
         self.say(&format!("one refresh of {SLICE} blocks, everything stale"), slice);
-        for (n, repetitions) in self.square.slices {
+        for &(n, repetitions) in self.square.slices {
             self.say(&format!("refreshes of {n} blocks until none is stale"), drawn(n, repetitions));
         }
     }
@@ -187,9 +205,9 @@ const LEVELS: usize = 10;
 
 /// A single paint and a list of forty, each of words that change: how many times the one the other takes.
 fn paint_lists(form: Form) {
-    let mut session = Session::open(&picture("page", LIST_SIDE), LIST_SIDE);
+    let mut session = Session::open(Screen::Three, &picture("page", LIST_SIDE), LIST_SIDE);
     assert_eq!(session.refresh_all().left, 0);
-    let mut listed = Session::open(&session.picture, LIST_SIDE);
+    let mut listed = Session::open(Screen::Three, &session.picture, LIST_SIDE);
     assert_eq!(listed.refresh_all().left, 0);
     let at = |i: usize| (1000 + 3 * (i / LEVELS), 1000 + i % LEVELS);
     let (single, list) = best(
@@ -207,7 +225,7 @@ fn paint_lists(form: Form) {
             };
             let items: Vec<Item> = (0..BARS * LEVELS).map(item).collect();
             time(|| {
-                let painted = panel::paint_list(listed.header, &mut listed.picture, &mut listed.marks, &items);
+                let painted = listed.paint_list(&items);
                 assert!(painted.refusal == 0 && painted.stale != 0);
             })
         },
@@ -221,16 +239,22 @@ fn paint_lists(form: Form) {
     ));
 }
 
-/// Prints the rows of every square and picture.
-pub fn run(form: Form) {
-    for square in &SQUARES {
+/// Prints the rows of every square and picture; lists of paints, whose time rests on no screen, with those of three times.
+pub fn run(form: Form, screen: Screen) {
+    let (title, whole) = match screen {
+        Screen::Three => ("a session", "scale"),
+        Screen::Nine => ("a nine-times session", "scale9x"),
+    };
+    for square in squares(screen) {
         let side = square.side;
-        form.note(&format!("a session of {side} by {side}: microseconds, beside one whole scale of the original"));
+        form.note(&format!("{title} of {side} by {side}: microseconds, beside one whole {whole} of the original"));
         for name in PICTURES {
-            let bench = Bench::new(form, square, name);
+            let bench = Bench::new(form, screen, square, name);
             bench.drawing();
             bench.keeping();
         }
     }
-    paint_lists(form);
+    if screen == Screen::Three {
+        paint_lists(form);
+    }
 }

@@ -3,37 +3,23 @@
 use super::pictures::KINDS;
 use super::random::Random;
 use super::setting::meant;
-use crate::panel::{Setting, STANDARD};
+use crate::panel::{Screen, Setting, STANDARD};
 use std::fmt;
 
-#[derive(Clone, Copy, Debug, PartialEq, Eq)]
-pub enum Times {
-    Three,
-    Nine,
-}
-
-impl Times {
+impl Screen {
     pub fn passes(self) -> usize {
         match self {
-            Times::Three => 1,
-            Times::Nine => 2,
+            Screen::Three => 1,
+            Screen::Nine => 2,
         }
     }
 
-    /// The largest side.
-    fn limit(self) -> u32 {
-        match self {
-            Times::Three => 2048,
-            Times::Nine => 682,
-        }
-    }
-
-    /// The elements that a call needs, by buffer.
+    /// The elements that a call on a whole picture needs, by buffer.
     fn needed(self, w: u32, h: u32) -> [u128; 5] {
         let wh = u128::from(w) * u128::from(h);
         match self {
-            Times::Three => [wh, 9 * wh, 0, 8 * wh, 8 * wh],
-            Times::Nine => [wh, 81 * wh, 9 * wh, 72 * wh, 72 * wh],
+            Screen::Three => [wh, 9 * wh, 0, 8 * wh, 8 * wh],
+            Screen::Nine => [wh, 81 * wh, 9 * wh, 72 * wh, 72 * wh],
         }
     }
 }
@@ -54,7 +40,7 @@ const ALL_EXACT: [Room; 5] = [Room::Exact; 5];
 /// What a call is to be, without its picture.
 #[derive(Clone, Copy)]
 pub struct Plan {
-    times: Times,
+    times: Screen,
     w: u32,
     h: u32,
     kind: usize,
@@ -81,7 +67,7 @@ impl Plan {
 /// Every small size with every kind, and the limits with every room.
 pub fn edges() -> Vec<Plan> {
     let mut plans = Vec::new();
-    for times in [Times::Three, Times::Nine] {
+    for times in [Screen::Three, Screen::Nine] {
         let small = [0, 1, 2, 3, 12, 13];
         for (w, h) in small.into_iter().flat_map(|w| small.map(|h| (w, h))) {
             plans.extend((0..KINDS.len()).map(|kind| Plan { times, w, h, kind, rooms: ALL_EXACT }));
@@ -99,7 +85,7 @@ pub fn edges() -> Vec<Plan> {
 
 /// Noise of the largest size, three and nine times.
 pub fn largest() -> [Plan; 2] {
-    [Times::Three, Times::Nine].map(|times| {
+    [Screen::Three, Screen::Nine].map(|times| {
         let n = times.limit();
         Plan { times, w: n, h: n, kind: 0, rooms: ALL_EXACT }
     })
@@ -124,8 +110,8 @@ fn all_rooms() -> Vec<[Room; 5]> {
 
 /// A call on a picture of a kind, most of them small and on exact buffers.
 pub fn any(random: &mut Random, kind: usize) -> Plan {
-    let times = if random.one_in(4) { Times::Nine } else { Times::Three };
-    let (small, large) = if times == Times::Three { (16, 40) } else { (8, 16) };
+    let times = if random.one_in(4) { Screen::Nine } else { Screen::Three };
+    let (small, large) = if times == Screen::Three { (16, 40) } else { (8, 16) };
     let (w, h) = match random.below(40) {
         0 => (random.between(1, 3), random.between(1, 160)),
         1 => (random.between(1, 160), random.between(1, 3)),
@@ -145,7 +131,7 @@ pub fn any(random: &mut Random, kind: usize) -> Plan {
 /// One call: the picture holds wh words, or a few where the sides are past the limit.
 #[derive(Clone)]
 pub struct Case {
-    pub times: Times,
+    pub times: Screen,
     pub w: u32,
     pub h: u32,
     pub setting: Setting,
@@ -157,7 +143,7 @@ pub struct Case {
 
 impl Case {
     /// A call at the standard on exact buffers.
-    pub fn exact(times: Times, w: usize, h: usize, picture: &[u32]) -> Case {
+    pub fn exact(times: Screen, w: usize, h: usize, picture: &[u32]) -> Case {
         let (w, h, picture) = (w as u32, h as u32, picture.to_vec());
         Case { times, w, h, setting: STANDARD, picture, kind: "given", rooms: ALL_EXACT, seed: 1 }
     }

@@ -4,6 +4,7 @@
 use super::original;
 use super::plain::{self, Clarity, Drawn};
 use super::setting::like_standard;
+use crate::panel::Screen;
 
 #[derive(Clone, Copy, Debug, PartialEq, Eq)]
 pub enum By {
@@ -33,11 +34,14 @@ impl By {
     }
 }
 
-/// The words alone, by the original where it serves.
-pub fn words(clarity: Clarity, picture: &[u32], w: usize, h: usize) -> Vec<u32> {
-    if like_standard(clarity) {
-        original::scale(picture, w, h)
-    } else {
-        plain::draw(clarity, picture, w, h).output
+/// The words alone, by the original where it serves; nine times by the plain enlargement is three times of all that three
+/// times gives.
+pub fn words(screen: Screen, clarity: Clarity, picture: &[u32], w: usize, h: usize) -> Vec<u32> {
+    let plain = |picture: &[u32], w: usize, h: usize| plain::draw(clarity, picture, w, h).output;
+    match (screen, like_standard(clarity)) {
+        (Screen::Three, true) => original::scale(picture, w, h),
+        (Screen::Nine, true) => original::scale9x(picture, w, h),
+        (Screen::Three, false) => plain(picture, w, h),
+        (Screen::Nine, false) => plain(&plain(picture, w, h), 3 * w, 3 * h),
     }
 }

@@ -4,8 +4,8 @@
 
 use super::machine::{holds, lock_of, Rectangle};
 use super::random::Random;
-use super::session::{any_position, any_word};
-use crate::panel::{Header, Item};
+use super::session::{any_position, any_word, near};
+use crate::panel::{Header, Item, Screen};
 
 fn any_count(random: &mut Random) -> usize {
     match random.below(8) {
@@ -17,8 +17,8 @@ fn any_count(random: &mut Random) -> usize {
 
 /// An item that is taken at its turn where those before it are: inside the picture, and in the lock the word that stands
 /// there.
-fn taken(random: &mut Random, header: Header, picture: &[u32], before: &[Item]) -> Item {
-    let (w, h) = (header[0].min(60) as usize, header[1].min(60) as usize);
+fn taken(random: &mut Random, screen: Screen, header: Header, picture: &[u32], before: &[Item]) -> Item {
+    let (w, h) = near(screen, header);
     let (column, row) = match before.last() {
         Some(item) if random.one_in(3) => (item.column, item.row),
         _ => (random.below(w.max(1)) as u32, random.below(h.max(1)) as u32),
@@ -32,10 +32,11 @@ fn taken(random: &mut Random, header: Header, picture: &[u32], before: &[Item]) 
 }
 
 /// An item that may be refused: any position, any word.
-fn wild(random: &mut Random, header: Header, picture: &[u32]) -> Item {
-    let (w, h) = (header[0].min(60) as usize, header[1].min(60) as usize);
+fn wild(random: &mut Random, screen: Screen, header: Header, picture: &[u32]) -> Item {
+    let (w, h) = near(screen, header);
     let [left, top, width, height]: Rectangle = lock_of(header);
-    let (column, row) = (any_position(random, w, left, width), any_position(random, h, top, height));
+    let column = any_position(random, screen, w, left, width);
+    let row = any_position(random, screen, h, top, height);
     Item { column, row, word: any_word(random, picture, w, column, row) }
 }
 
@@ -49,12 +50,14 @@ fn refused(random: &mut Random, [w, h, left, top, width, height, ..]: Header, it
     }
 }
 
-pub fn any_items(random: &mut Random, header: Header, picture: &[u32]) -> Vec<Item> {
+pub fn any_items(random: &mut Random, screen: Screen, header: Header, picture: &[u32]) -> Vec<Item> {
     let (count, any) = (any_count(random), random.one_in(6));
     let mut items = Vec::with_capacity(count);
     for _ in 0..count {
-        let item = if any { wild(random, header, picture) } else { taken(random, header, picture, &items) };
-        items.push(item);
+        items.push(match any {
+            true => wild(random, screen, header, picture),
+            false => taken(random, screen, header, picture, &items),
+        });
     }
     if !items.is_empty() && random.one_in(3) {
         let last = items.len() - 1;

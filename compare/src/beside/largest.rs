@@ -1,21 +1,18 @@
-//! Sessions with sides of 2,048, the largest, at each sort of setting: painted at corners and in the middle, refreshed in
-//! slices and whole, beside the plain machine. Sides of 2,049 are refused, by the opening and by every call.
+//! Sessions with the largest sides, 2,048 or nine times 682, at each sort of setting: painted at corners and in the middle,
+//! refreshed in slices and whole, beside the plain machine. Sides of one more are refused, by the opening and by every call.
 //!
-//! The machine redraws whole where a refresh follows a changing paint, and the original takes seconds for 2,048 by 2,048.
-//! So paints stand together, and refreshes after them: two redraws. Answers are compared at every call, the buffers after
-//! each group of calls.
+//! The machine redraws whole where a refresh follows a changing paint, and the original takes seconds for the largest
+//! picture. So paints stand together, and refreshes after them: two redraws. Answers are compared at every call, the buffers
+//! after each group of calls.
 
 use super::alone::{call_alone, opening, Buffers};
 use super::font;
-use super::lent::Lent;
 use super::machine::{header, Call, ITEMS, NONE};
 use super::pair::Pair;
 use super::pictures::KINDS;
 use super::random::Random;
 use super::setting::HALF;
-use crate::panel::{self, Item, Setting, STANDARD};
-
-const LIMIT: usize = 2048;
+use crate::panel::{self, Item, Screen, Setting, STANDARD};
 
 /// The standard, threshold 0.5, another threshold and two gated ones.
 const SETTINGS: [Setting; 5] = [
@@ -48,15 +45,17 @@ struct List {
 
 impl List {
     fn open(
+        screen: Screen,
         [w, h]: [usize; 2],
         setting: Setting,
         name: &str,
         first: &[u32],
         random: &mut Random,
     ) -> Result<List, String> {
-        let lengths = (w * h + 3, 9 * w * h + 5, w * h + 7);
+        let [picture, output, marks] = screen.lengths(w * h);
         let title = format!("{w} by {h}, {setting:x?}, {name}");
-        let pair = Pair::open(title, [w, h], setting, first, lengths, random)?;
+        let lengths = [picture + 3, output + 5, marks + 7];
+        let pair = Pair::open(screen, title, [w, h], setting, first, lengths, random)?;
         Ok(List { pair, w, h, setting, calls: 1 })
     }
 
@@ -117,7 +116,8 @@ impl List {
 
     /// The block of each place, the one beside the last place's marked blocks, and two outside.
     fn shows(&mut self) -> Result<(), String> {
-        let beside = (self.w.saturating_sub(8) as u32, self.h.saturating_sub(7) as u32);
+        let reach = self.pair.screen.reach();
+        let beside = (self.w.saturating_sub(reach.beside + 2) as u32, self.h.saturating_sub(reach.above + 2) as u32);
         let outside = [(self.w as u32, 0), (0, self.h as u32)];
         let blocks = places(self.w, self.h).into_iter().chain([beside]).chain(outside);
         blocks.into_iter().try_for_each(|(bx, by)| self.call(Call::Show { bx, by }))
@@ -125,9 +125,10 @@ impl List {
 
     /// Everything stale, nothing stale, some stale, nothing stale.
     fn run(&mut self) -> Result<(), String> {
+        let limit = self.pair.screen.limit();
         self.paints(0x00ff_ffff)?;
         self.shows()?;
-        self.refreshes(&[0, 1, 16, 256, LIMIT as u32 - 1, LIMIT as u32 + 5, 70_001])?;
+        self.refreshes(&[0, 1, 16, 256, limit - 1, limit + 5, 70_001])?;
         self.shows()?;
         self.refreshes(&[u32::MAX, u32::MAX])?;
         self.shows()?;
@@ -145,79 +146,111 @@ impl List {
 
     /// With nothing stale, the output is what the library's whole enlargement of the last picture gives.
     fn whole(&self) -> Result<(), String> {
-        let (w, h, n) = (self.w as u32, self.h as u32, self.w * self.h);
-        let (mut output, mut singles, mut bytes) = (vec![1; 9 * n], vec![1.0; 8 * n], vec![1; 8 * n]);
-        let picture = &self.pair.machine.picture;
-        let refusal = panel::scale([w, h], self.setting, picture, &mut output, &mut singles, &mut bytes);
-        if refusal != 0 || output != self.pair.got.output.part()[..9 * n] {
+        let (w, h) = (self.w as u32, self.h as u32);
+        let (refusal, output) = enlarged(self.pair.screen, [w, h], self.setting, &self.pair.machine.picture);
+        if refusal != 0 || output != self.pair.got.output.part()[..output.len()] {
             return Err(format!("{w} by {h}: the last picture enlarged whole, refusal {refusal}, is not the output"));
         }
         Ok(())
     }
 }
 
+/// The library's whole enlargement, three or nine times: its refusal, and the output.
+fn enlarged(screen: Screen, sides: [u32; 2], setting: Setting, picture: &[u32]) -> (u32, Vec<u32>) {
+    let records = 8 * screen.block() / 9 * picture.len();
+    let (mut singles, mut bytes) = (vec![1.0; records], vec![1; records]);
+    let mut output = vec![1; screen.block() * picture.len()];
+    let refusal = match screen {
+        Screen::Three => panel::scale(sides, setting, picture, &mut output, &mut singles, &mut bytes),
+        Screen::Nine => {
+            let mut middle = vec![1; 9 * picture.len()];
+            panel::scale9x(sides, setting, picture, &mut output, &mut middle, &mut singles, &mut bytes)
+        }
+    };
+    (refusal, output)
+}
+
 /// A page of text whose top bytes are any: they are carried to the output, and tell where a word came from.
-fn page(random: &mut Random, side: usize) -> Vec<u32> {
-    font::page(side, side, 0, 0).into_iter().map(|word| word ^ (random.word() & 0xff00_0000)).collect()
+fn page(random: &mut Random, [w, h]: [usize; 2]) -> Vec<u32> {
+    font::page(w, h, 0, 0).into_iter().map(|word| word ^ (random.word() & 0xff00_0000)).collect()
 }
 
-fn noise(random: &mut Random, side: usize) -> Vec<u32> {
-    (0..side * side).map(|_| random.word()).collect()
+fn noise(random: &mut Random, [w, h]: [usize; 2]) -> Vec<u32> {
+    (0..w * h).map(|_| random.word()).collect()
 }
 
-/// Buffers for a number of blocks, each shorter by what is given.
-fn buffers(random: &mut Random, blocks: usize, [picture, output, marks]: [usize; 3]) -> Buffers {
-    Buffers {
-        picture: Lent::new(blocks - picture, random),
-        output: Lent::new(9 * blocks - output, random),
-        marks: Lent::new(blocks - marks, random),
-    }
+/// Buffers of any contents for a number of blocks, each shorter by what is given.
+fn buffers(random: &mut Random, screen: Screen, blocks: usize, short: [usize; 3]) -> Buffers {
+    let lengths = screen.lengths(blocks);
+    Buffers::on(&[], [0, 1, 2].map(|i| lengths[i] - short[i]), random)
 }
 
 /// A setting that is refused after all that is wrong with sides and buffers.
 const UNLAWFUL: Setting = Setting { kind: 2, bits: 0 };
 
-/// Sides of 2,049, on buffers that are long enough for 2,049 blocks; sides of 2,048 on buffers one short.
-fn refused(random: &mut Random) -> Result<(), String> {
-    let (n, past) = (LIMIT as u32, LIMIT as u32 + 1);
+/// Sides of one more than the largest, on buffers that are long enough for a row of so many blocks; the largest sides on
+/// buffers one short.
+fn refused(screen: Screen, random: &mut Random) -> Result<(), String> {
+    let (n, past) = (screen.limit(), screen.limit() + 1);
+    let long = |random: &mut Random| buffers(random, screen, past as usize, [0; 3]);
     for [w, h] in [[past, 1], [1, past], [past, 0], [0, past], [past, n], [n, past], [past, past]] {
-        opening([w, h], STANDARD, buffers(random, LIMIT + 1, [0; 3]))?;
-        opening([w, h], UNLAWFUL, buffers(random, LIMIT + 1, [0; 3]))?;
+        opening(screen, [w, h], STANDARD, long(random))?;
+        opening(screen, [w, h], UNLAWFUL, long(random))?;
         let paint = Call::Paint { column: 0, row: 0, word: 1 };
         let lock = Call::Lock { lock: [0, 0, w, h] };
         let list = Call::PaintList { items: Vec::new() };
         for call in [paint, list, Call::Refresh { n: u32::MAX }, Call::Show { bx: 0, by: 0 }, lock] {
-            call_alone(header([w, h], NONE, STANDARD), buffers(random, LIMIT + 1, [0; 3]), &call)?;
-            call_alone(header([w, h], [0, 0, w, h], UNLAWFUL), buffers(random, LIMIT + 1, [0; 3]), &call)?;
+            call_alone(screen, header([w, h], NONE, STANDARD), long(random), &call)?;
+            call_alone(screen, header([w, h], [0, 0, w, h], UNLAWFUL), long(random), &call)?;
         }
     }
     for sides in [[n, 1], [1, n]] {
         for short in [[1, 0, 0], [0, 1, 0], [0, 0, 1], [1, 1, 1]] {
-            opening(sides, STANDARD, buffers(random, LIMIT, short))?;
-            opening(sides, UNLAWFUL, buffers(random, LIMIT, short))?;
+            opening(screen, sides, STANDARD, buffers(random, screen, n as usize, short))?;
+            opening(screen, sides, UNLAWFUL, buffers(random, screen, n as usize, short))?;
         }
-        opening(sides, UNLAWFUL, buffers(random, LIMIT, [0; 3]))?;
+        opening(screen, sides, UNLAWFUL, buffers(random, screen, n as usize, [0; 3]))?;
     }
     Ok(())
 }
 
+/// The sizes of the page and of the noise. Nine times, noise at a setting of its own would take the machine too long.
+fn sheets(screen: Screen) -> [[usize; 2]; 2] {
+    let n = screen.limit() as usize;
+    match screen {
+        Screen::Three => [[n, n], [n, n]],
+        Screen::Nine => [[n, n], [n, 24]],
+    }
+}
+
+/// The sizes by their names.
+pub fn sizes(screen: Screen) -> String {
+    let (n, mut sheets) = (screen.limit() as usize, sheets(screen).to_vec());
+    sheets.dedup();
+    let (last, others) = sheets.split_last().expect("a size");
+    let named: Vec<String> = [[n, 1], [1, n]].iter().chain(others).map(|[w, h]| format!("{w} by {h}")).collect();
+    format!("{} and {} by {}", named.join(", "), last[0], last[1])
+}
+
 /// The calls made beside the machine, or the first difference.
-pub fn run(random: &mut Random) -> Result<usize, String> {
-    refused(random)?;
+pub fn run(screen: Screen, random: &mut Random) -> Result<usize, String> {
+    refused(screen, random)?;
+    let limit = screen.limit() as usize;
     let mut calls = 0;
     let mut settings = SETTINGS.into_iter().cycle();
-    for sides in [[LIMIT, 1], [1, LIMIT]] {
+    for sides in [[limit, 1], [1, limit]] {
         for (kind, setting) in KINDS.iter().zip(&mut settings) {
             let first = kind.picture(random, sides[0], sides[1]);
-            let mut list = List::open(sides, setting, kind.name, &first, random)?;
+            let mut list = List::open(screen, sides, setting, kind.name, &first, random)?;
             list.run()?;
             calls += list.calls;
         }
     }
     // a page comes out alike at most settings, noise does not
-    let squares = [("a page", STANDARD, page(random, LIMIT)), ("noise", SETTINGS[3], noise(random, LIMIT))];
-    for (name, setting, first) in squares {
-        let mut list = List::open([LIMIT; 2], setting, name, &first, random)?;
+    let [text, any] = sheets(screen);
+    let sheets = [("a page", text, STANDARD, page(random, text)), ("noise", any, SETTINGS[3], noise(random, any))];
+    for (name, sides, setting, first) in sheets {
+        let mut list = List::open(screen, sides, setting, name, &first, random)?;
         list.run()?;
         calls += list.calls;
     }

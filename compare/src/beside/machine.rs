@@ -1,10 +1,10 @@
-//! The plain machine of a session. It redraws the picture whole at its setting, by the original or by the plain
-//! enlargement, and takes nothing from the library.
+//! The plain machine of a session on either screen. It redraws the picture whole at its setting, by the original or by the
+//! plain enlargement, and takes nothing from the library.
 
 use super::drawing;
 use super::plain::Clarity;
 use super::setting::{answered, meant};
-use crate::panel::{Header, Item, Setting};
+use crate::panel::{Header, Item, Screen, Setting};
 
 /// A rectangle of the picture: left, top, width, height.
 pub type Rectangle = [u32; 4];
@@ -39,6 +39,7 @@ pub fn setting_of([.., kind, bits]: Header) -> Setting {
 }
 
 pub struct Machine {
+    screen: Screen,
     w: usize,
     h: usize,
     lock: Rectangle,
@@ -66,31 +67,25 @@ pub enum Call {
     Lock { lock: Rectangle },
 }
 
-#[derive(Clone, Copy, Debug, PartialEq, Eq)]
+#[derive(Clone, Debug, PartialEq, Eq)]
 pub enum Answer {
     Refused(u32),
     Unchanged { stale: u32 },
     Painted { stale: u32 },
     PaintedList { stale: u32 },
     Refreshed { drawn: u32, left: u32 },
-    Shown([u32; 9]),
+    Shown(Vec<u32>),
     Locked(Header),
-}
-
-/// Whether a changing paint at (column, row) makes block (bx, by) stale.
-pub fn names((column, row): (usize, usize), (bx, by): (usize, usize)) -> bool {
-    let (beside, below) = (bx.abs_diff(column), by as isize - row as isize);
-    (beside <= 6 && (-2..=3).contains(&below)) || (beside <= 3 && (-5..=6).contains(&below))
 }
 
 impl Machine {
     /// Every block is stale, every output word 0, nothing locked. The setting is a lawful one.
-    pub fn open([w, h]: [usize; 2], setting: Setting, picture: &[u32]) -> Machine {
+    pub fn open(screen: Screen, [w, h]: [usize; 2], setting: Setting, picture: &[u32]) -> Machine {
         let picture = picture[..w * h].to_vec();
-        let (stale, output) = (vec![true; w * h], vec![0; 9 * w * h]);
+        let (stale, output) = (vec![true; w * h], vec![0; screen.block() * w * h]);
         let clarity = meant(setting).expect("a setting that is not refused");
         let setting = answered(setting);
-        Machine { w, h, lock: NONE, setting, clarity, picture, stale, output, refused_at: None, whole: None }
+        Machine { screen, w, h, lock: NONE, setting, clarity, picture, stale, output, refused_at: None, whole: None }
     }
 
     pub fn stale_count(&self) -> u32 {
@@ -109,7 +104,7 @@ impl Machine {
             Call::Refresh { n } => self.refresh(n),
             Call::Show { bx, by } => match self.place(bx, by) {
                 Some(at) if self.stale[at] => Answer::Refused(7),
-                Some(at) => Answer::Shown(self.places(at).map(|i| self.output[i])),
+                Some(at) => Answer::Shown(self.places(at).map(|i| self.output[i]).collect()),
                 None => Answer::Refused(5),
             },
             Call::Lock { lock } => self.relock(lock),
@@ -134,10 +129,9 @@ impl Machine {
         (x < self.w && y < self.h).then(|| y * self.w + x)
     }
 
-    /// The places in the output of a block's nine words, row by row.
-    fn places(&self, at: usize) -> [usize; 9] {
-        let (bx, by) = (at % self.w, at / self.w);
-        std::array::from_fn(|k| (3 * by + k / 3) * (3 * self.w) + 3 * bx + k % 3)
+    /// The places in the output of a block's words, row by row.
+    fn places(&self, at: usize) -> impl Iterator<Item = usize> {
+        self.screen.places(self.w, (at % self.w, at / self.w))
     }
 
     /// A paint of another word.
@@ -145,7 +139,7 @@ impl Machine {
         self.picture[at] = word;
         self.whole = None;
         for (i, stale) in self.stale.iter_mut().enumerate() {
-            *stale |= names((at % self.w, at / self.w), (i % self.w, i / self.w));
+            *stale |= self.screen.names((at % self.w, at / self.w), (i % self.w, i / self.w));
         }
         Answer::Painted { stale: self.stale_count() }
     }
@@ -169,8 +163,7 @@ impl Machine {
     fn refresh(&mut self, n: u32) -> Answer {
         let blocks = 0..self.stale.len();
         let first: Vec<usize> = blocks.filter(|&at| self.stale[at]).take(n as usize).collect();
-        let draw = || drawing::words(self.clarity, &self.picture, self.w, self.h);
-        let whole = self.whole.take().unwrap_or_else(draw);
+        let whole = self.enlarged();
         for &at in &first {
             self.stale[at] = false;
             for i in self.places(at) {
@@ -179,5 +172,20 @@ impl Machine {
         }
         self.whole = Some(whole);
         Answer::Refreshed { drawn: first.len() as u32, left: self.stale_count() }
+    }
+
+    /// The present picture enlarged whole.
+    fn enlarged(&mut self) -> Vec<u32> {
+        let draw = || drawing::words(self.screen, self.clarity, &self.picture, self.w, self.h);
+        self.whole.take().unwrap_or_else(draw)
+    }
+
+    /// The first block that is not stale and has in an output other words than the present picture enlarged whole.
+    pub fn outdated(&mut self, output: &[u32]) -> Option<usize> {
+        let whole = self.enlarged();
+        let same = |at: usize| self.places(at).all(|i| output[i] == whole[i]);
+        let found = (0..self.stale.len()).find(|&at| !self.stale[at] && !same(at));
+        self.whole = Some(whole);
+        found
     }
 }

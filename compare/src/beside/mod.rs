@@ -22,6 +22,7 @@ mod plain;
 mod plain_tags;
 mod random;
 mod record;
+mod screen;
 mod session;
 mod session_tally;
 mod setting;
@@ -37,7 +38,8 @@ pub fn run(name: &str, rest: &[&str]) -> Option<bool> {
         ("distance", _) => counted(distance::run, 2_000_000, rest),
         ("whole", _) => counted(whole::run, 20_000, rest),
         ("clarity", _) => counted(clarity::run, 40_000, rest),
-        ("session", _) => counted(session::run, 40_000, rest),
+        ("session", _) => counted(session::run_three, 40_000, rest),
+        ("session9", _) => counted(session::run_nine, 10_000, rest),
         ("page", _) => counted(page::run, 4_000, rest),
         ("record", []) => Some(record::run()),
         ("record", ["--write"]) => Some(record::write()),

@@ -1,12 +1,12 @@
 //! A session of the library and one of the plain machine, given the same calls.
 
 use super::alone::Buffers;
-use super::lent::Lent;
 use super::machine::{Answer, Call, Machine};
 use super::random::Random;
-use crate::panel::{self, Header, Setting};
+use crate::panel::{self, Header, Screen, Setting};
 
 pub struct Pair {
+    pub screen: Screen,
     /// The header last answered without a refusal.
     pub header: Header,
     /// The library's buffers.
@@ -23,27 +23,24 @@ impl Pair {
     /// lengths: picture, output, marks. A difference, here as below, is a text that starts with the title and the calls so
     /// far.
     pub fn open(
+        screen: Screen,
         title: String,
         [w, h]: [usize; 2],
         setting: Setting,
         first: &[u32],
-        lengths: (usize, usize, usize),
+        lengths: [usize; 3],
         random: &mut Random,
     ) -> Result<Pair, String> {
-        let mut got = Buffers {
-            picture: Lent::with(first, lengths.0, random),
-            output: Lent::new(lengths.1, random),
-            marks: Lent::new(lengths.2, random),
-        };
+        let mut got = Buffers::on(first, lengths, random);
         let expected = got.clone();
         let sides = [w as u32, h as u32];
-        let opened = panel::open(sides, setting, got.picture.part(), got.output.part_mut(), got.marks.part_mut());
-        let machine = Machine::open([w, h], setting, first);
+        let opened = got.open(screen, sides, setting);
+        let machine = Machine::open(screen, [w, h], setting, first);
         let should = panel::Opened { refusal: 0, header: machine.header(), stale: machine.stale_count() };
         if opened != should {
             return Err(format!("{title}: opening answered {opened:?}, expected {should:?}"));
         }
-        let mut pair = Pair { header: opened.header, got, expected, machine, list: title };
+        let mut pair = Pair { screen, header: opened.header, got, expected, machine, list: title };
         pair.same()?;
         Ok(pair)
     }
@@ -56,8 +53,8 @@ impl Pair {
     /// Makes a call of both; their answers are alike.
     pub fn call(&mut self, call: &Call) -> Result<Answer, String> {
         self.list += &format!("\n  {call:?}");
-        let (said, should) = (self.got.call(self.header, call), self.machine.call(call));
-        if said != Ok(should) {
+        let (said, should) = (self.got.call(self.screen, self.header, call), self.machine.call(call));
+        if said.as_ref() != Ok(&should) {
             return Err(format!("{}: answered {said:?}, expected {should:?}", self.list));
         }
         if let Answer::Locked(header) = should {
@@ -74,6 +71,14 @@ impl Pair {
         self.expected.marks.put(&marks);
         match self.got.difference(&self.expected) {
             Some(text) => Err(format!("{}: afterwards {text}", self.list)),
+            None => Ok(()),
+        }
+    }
+
+    /// Every block that is not stale has the words of the present picture enlarged whole.
+    pub fn up_to_date(&mut self) -> Result<(), String> {
+        match self.machine.outdated(self.got.output.part()) {
+            Some(at) => Err(format!("{}: block {at} is not stale, and not as the whole enlargement has it", self.list)),
             None => Ok(()),
         }
     }

@@ -61,11 +61,12 @@ pub fn compare(random: &mut Random, first: &mut Pair) -> Result<bool, String> {
     settle(first)?;
     let setting = equal_setting(random, first);
     let other = KINDS[random.below(KINDS.len())].picture(random, w, h);
-    let title = format!("second list to {}, {setting:x?}", first.title());
-    let mut second = Pair::open(title, [w, h], setting, &other, (w * h, 9 * w * h, w * h), random)?;
+    let (screen, title) = (first.screen, format!("second list to {}, {setting:x?}", first.title()));
+    let lengths = screen.lengths(w * h);
+    let mut second = Pair::open(screen, title, [w, h], setting, &other, lengths, random)?;
     let items = items(random, &first.machine.picture, w);
     follow(random, &mut second, &items)?;
-    let words = 9 * w * h;
+    let words = lengths[1];
     if first.got.output.part()[..words] != second.got.output.part()[..words] {
         return Err(format!("{}: the two lists have one picture and setting, and not the same output", second.title()));
     }

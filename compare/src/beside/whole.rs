@@ -1,6 +1,6 @@
 //! Whole pictures, three and nine times: the library beside the original, in every bit of every buffer.
 
-use super::case::{self, Case, Times};
+use super::case::{self, Case};
 use super::drawing::By;
 use super::lent::{Bits, Lent};
 use super::original;
@@ -8,7 +8,7 @@ use super::pictures::KINDS;
 use super::plain::{Clarity, Drawn};
 use super::random::Random;
 use super::setting::meant;
-use crate::panel;
+use crate::panel::{self, Screen};
 
 /// The buffers of a call, as they are lent or as they are left.
 #[derive(Clone)]
@@ -37,8 +37,8 @@ impl Buffers {
         let (output, singles, bytes) = (self.output.part_mut(), self.singles.part_mut(), self.bytes.part_mut());
         let (sides, setting, picture) = ([case.w, case.h], case.setting, self.picture.part());
         match case.times {
-            Times::Three => panel::scale(sides, setting, picture, output, singles, bytes),
-            Times::Nine => panel::scale9x(sides, setting, picture, output, self.middle.part_mut(), singles, bytes),
+            Screen::Three => panel::scale(sides, setting, picture, output, singles, bytes),
+            Screen::Nine => panel::scale9x(sides, setting, picture, output, self.middle.part_mut(), singles, bytes),
         }
     }
 
@@ -46,11 +46,11 @@ impl Buffers {
     fn fill(&mut self, case: &Case, clarity: Clarity, by: By) {
         let (w, h) = (case.w as usize, case.h as usize);
         let mut last = by.draw(clarity, &case.picture, w, h);
-        if case.times == Times::Nine {
+        if case.times == Screen::Nine {
             self.middle.put(&last.output);
             last = by.draw(clarity, &last.output, 3 * w, 3 * h);
         }
-        let whole = if case.times == Times::Three { original::scale } else { original::scale9x };
+        let whole = if case.times == Screen::Three { original::scale } else { original::scale9x };
         let copied = by == By::Plain || last.output == whole(&case.picture, w, h);
         assert!(copied, "the copy with exposed stages is not the original");
         self.output.put(&last.output);
@@ -71,7 +71,7 @@ impl Buffers {
 
 /// The pixels of the pass that leaves its stage results.
 fn second_pass(case: &Case) -> isize {
-    let factor = if case.times == Times::Three { 1 } else { 9 };
+    let factor = if case.times == Screen::Three { 1 } else { 9 };
     factor * case.w as isize * case.h as isize
 }
 
@@ -129,7 +129,7 @@ fn original_alone(_: Clarity) -> &'static [By] {
 
 /// What is wrong with a picture enlarged three and nine times on exact buffers, if anything.
 pub fn wrong_exact(w: usize, h: usize, picture: &[u32]) -> Option<String> {
-    [Times::Three, Times::Nine].into_iter().find_map(|times| {
+    [Screen::Three, Screen::Nine].into_iter().find_map(|times| {
         let case = Case::exact(times, w, h, picture);
         wrong(&case, original_alone).map(|text| format!("{case}\n{text}"))
     })
