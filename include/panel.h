@@ -57,12 +57,13 @@
  * bytes are read), also where the word is equal; a changed pixel makes at most 120 blocks stale, a cross round it. A
  * list of paints counts them once, however many items it has: several pixels are best painted by one list. A refresh
  * reads all marks once too, those near stale blocks a few times; in slices of n, so does each slice. Blocks are drawn in
- * tiles of up to 16 by 12, each the rectangle round stale blocks, of which the stale ones are written; a tile's blocks
- * share work, so a slice that ends within a row of stale blocks costs more for each block than one that takes whole
- * rows. Measured at 256 by 256 (docs/PERFORMANCE.md of the repository), on a page of text and on noise: the
- * first refresh of everything took a little more than twice as long as panel_scale; one changed pixel, its paint and
- * its refresh, took less than a hundredth of panel_scale. So, where most of a page changes, do not paint every pixel:
- * store the words in the picture and open anew, which takes one opening and one refresh of everything.
+ * tiles of up to 16 by 12, in a nine-times session of up to 5 by 4, each the rectangle round stale blocks, of which the
+ * stale ones are written; a tile's blocks share work, so a slice that ends within a row of stale blocks costs more for
+ * each block than one that takes whole rows. Measured at 256 by 256 (docs/PERFORMANCE.md of the repository), on a page
+ * of text and on noise: the first refresh of everything took a little more than twice as long as panel_scale; one
+ * changed pixel, its paint and its refresh, took less than a hundredth of panel_scale. So, where most of a page changes,
+ * do not paint every pixel: store the words in the picture and open anew, which takes one opening and one refresh of
+ * everything.
  * In a nine-times session a changed pixel makes at most 272 blocks stale, a rectangle round it; the first refresh of
  * everything took less than four times as long as panel_scale9x, one changed pixel less than a fiftieth of it.
  */

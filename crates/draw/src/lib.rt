@@ -30,8 +30,8 @@ fn draw_band(
 ) -> u32
     requires { ⌜ ((y < bottom) × ((bottom ≤ h) × (bottom ≤ y + rowsOf scale)))
         × Lent (screenOf scale) w h (length (now picture)) (length (now output)) (length (now marks)) ⌝ }
-    ensures { λ r. ⌜ Draws (screenOf scale) w h clarity (y * w) (bottom * w) n (now (picture .entry)) (now (output .entry)) (now (marks .entry))
-        (now (output .exit)) (now (marks .exit)) r ⌝ }
+    ensures { λ r. ⌜ Draws (screenOf scale) w h clarity (y * w) (bottom * w) n
+        (now (picture .entry)) (now (output .entry)) (now (marks .entry)) (now (output .exit)) (now (marks .exit)) r ⌝ }
 {
     let width = w as usize;
     let lo = (y as usize) * width;

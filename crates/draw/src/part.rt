@@ -33,9 +33,10 @@ fn draw_window(
     y: u32,
     bottom: u32,
 )
-    requires { ⌜ (Window scale w h x end y bottom) × Lent (screenOf scale) w h (length (now picture)) (length (now output)) (length (now marks)) ⌝ }
-    ensures { λ _. ⌜ Swept (screenOf scale) w h clarity (Inside w x end y bottom) (now (picture .entry)) (now (output .entry)) (now (marks .entry))
-        (now (output .exit)) (now (marks .exit)) ⌝ }
+    requires { ⌜ (Window scale w h x end y bottom)
+        × Lent (screenOf scale) w h (length (now picture)) (length (now output)) (length (now marks)) ⌝ }
+    ensures { λ _. ⌜ Swept (screenOf scale) w h clarity (Inside w x end y bottom)
+        (now (picture .entry)) (now (output .entry)) (now (marks .entry)) (now (output .exit)) (now (marks .exit)) ⌝ }
 {
     let top = first_row(marks, w, x, end, y, bottom);
     let low = row_end(marks, w, x, end, top, bottom);
@@ -64,8 +65,8 @@ pub fn draw_part(
 )
     requires { ⌜ ((end ≤ w) × ((y ≤ bottom) × ((bottom ≤ h) × (bottom ≤ y + rowsOf scale))))
         × Lent (screenOf scale) w h (length (now picture)) (length (now output)) (length (now marks)) ⌝ }
-    ensures { λ _. ⌜ Swept (screenOf scale) w h clarity (Inside w 0 end y bottom) (now (picture .entry)) (now (output .entry)) (now (marks .entry))
-        (now (output .exit)) (now (marks .exit)) ⌝ }
+    ensures { λ _. ⌜ Swept (screenOf scale) w h clarity (Inside w 0 end y bottom)
+        (now (picture .entry)) (now (output .entry)) (now (marks .entry)) (now (output .exit)) (now (marks .exit)) ⌝ }
 {
     if y == bottom {
         return;

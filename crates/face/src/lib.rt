@@ -1,5 +1,5 @@
-// What the C face does for a session, once for both screens: the header is an array of eight numbers, w, h, left, top, width and height of the
-// lock, and kind and pattern of the setting of clarity; a paint of a list is one of three, column, row and word. The screen's number is
+// What the C face does for a session, once for both screens: the header is an array of eight numbers, w, h, left, top, width and height of
+// the lock, and kind and pattern of the setting of clarity; a paint of a list is one of three, column, row and word. The screen's number is
 // handed in; the C calls themselves are those of `panel`.
 use clarity::bits_of;
 use clarity::clarity_of;
@@ -73,7 +73,8 @@ pub fn open(
     header: &mut [u32; 8],
     stale: &mut u32,
 ) -> u32
-    ensures { λ r. ⌜ Opens (screenOf scale) w h (settingOf clarity threshold) (now (picture .entry)) (now (output .entry)) (now (marks .entry))
+    ensures { λ r. ⌜ Opens (screenOf scale) w h (settingOf clarity threshold)
+        (now (picture .entry)) (now (output .entry)) (now (marks .entry))
         (record {
           output = now (output .exit);
           marks = now (marks .exit);
@@ -219,7 +220,8 @@ pub fn lock(
     height: u32,
     locked: &mut [u32; 8],
 ) -> u32
-    ensures { λ r. ⌜ Locks (screenOf scale) (headerOf (now (header .entry))) (record { left = left; top = top; width = width; height = height })
+    ensures { λ r. ⌜ Locks (screenOf scale) (headerOf (now (header .entry)))
+        (record { left = left; top = top; width = width; height = height })
         (record { refusal = r; header = headerOf (now (locked .exit)) })
         × (now (locked .exit) ≡ numbersOf (headerOf (now (locked .exit)))) ⌝ }
 {

@@ -1,6 +1,6 @@
 -- A screen: how many words a block has, how large a picture may be, which blocks a paint names and how a block is drawn at a setting of
--- clarity. The machine, the calls and demand 3 are stated for every screen; `three/specs/Three.antt` has the three-times screen.
--- Definitions only.
+-- clarity. The machine, the calls and demand 3 are stated for every screen; `three/specs/Three.antt` has the three-times screen,
+-- `nine/specs/Nine.antt` the nine-times one. Definitions only.
 use mathlib.Core.Path.{_≡_}
 use mathlib.Core.Bool.{Bool, true}
 use mathlib.Core.List.{List}

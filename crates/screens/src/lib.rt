@@ -77,8 +77,8 @@ pub fn corner(scale: u32, w: u32, bx: u32, by: u32) -> usize
 
 // The words of block (bx, by), row by row.
 pub fn read_block(scale: u32, output: &[u32], w: u32, h: u32, bx: u32, by: u32, words: &mut [u32])
-    requires { ⌜ (bx < w) × ((by < h) × ((w ≤ 2048) × ((h ≤ 2048) × ((blockWords (screenOf scale) * (w * h) ≤ length (now output))
-        × (length (now words) ≡ blockWords (screenOf scale)))))) ⌝ }
+    requires { ⌜ (bx < w) × ((by < h) × ((w ≤ 2048) × ((h ≤ 2048)
+        × ((blockWords (screenOf scale) * (w * h) ≤ length (now output)) × (length (now words) ≡ blockWords (screenOf scale)))))) ⌝ }
     ensures { λ _. ⌜ now (words .exit) ≡ blockAt (screenOf scale) w h bx by (now (output .entry)) ⌝ }
 {
     let s = across(scale) as usize;

@@ -1,6 +1,6 @@
-// The nine-times session: as the three-times one, with a block of 9 by 9 words for each pixel and sides of at most 682. The calls are those of
-// `calls`, at the nine-times screen. `machine/specs/Calls.antt` says what each call leaves and answers, `Machine.antt` beside it is the plain
-// machine, `Demand3.antt` says what holds of every list of calls, and `proofs/Theorem.antt` here proves it of this session.
+// The nine-times session: as the three-times one, with a block of 9 by 9 words for each pixel and sides of at most 682. The calls are
+// those of `calls`, at the nine-times screen. `machine/specs/Calls.antt` says what each call leaves and answers, `Machine.antt` beside it
+// is the plain machine, `Demand3.antt` says what holds of every list of calls, and `proofs/Theorem.antt` here proves it of this session.
 use calls::Painted;
 use calls::PaintedList;
 use calls::Refreshed;

@@ -127,7 +127,7 @@ fn put_tagged(
 }
 
 // The k blocks from (x, y) on, side by side from `at` on. Their tags start at byte `from`.
-pub fn put_row(
+fn put_row(
     picture: &[u32],
     w: u32,
     h: u32,

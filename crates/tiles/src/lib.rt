@@ -1,7 +1,9 @@
-// A tile: a rectangle of blocks that share their passes' work. Of its blocks the stale ones are drawn, and the others keep their words. Both
-// screens store blocks of nine words, those of the last pass: the three-times screen one for each of its own blocks, from the picture, and
-// the nine-times screen three by three, from a window of the first result that the first pass leaves on the stack.
+// A tile: a rectangle of blocks that share their passes' work. Of its blocks the stale ones are drawn, and the others keep their words.
+// Both screens store blocks of nine words, those of the last pass: the three-times screen one for each of its own blocks, from the picture,
+// and the nine-times screen three by three, from a window of the first result that the first pass leaves on the stack.
 use block::BYTES;
+use block::COLUMNS;
+use block::ROWS;
 use block::TAGS;
 use block::ring;
 use block::tags_tile;
@@ -26,7 +28,7 @@ ghost use Rattle.three.specs.Three.{screen3};
 ghost use Rattle.nine.specs.Nine.{screen9};
 ghost use Rattle.screens.specs.Screens.{screenOf};
 ghost use Rattle.tiles.specs.Steps.{DrawsAll, Swept};
-ghost use Rattle.tiles.specs.Tiles.{cellsOf, columnsOf, rowsOf, lastPass, TileOn, Ready, windowWords};
+ghost use Rattle.tiles.specs.Tiles.{cellsOf, columnsOf, rowsOf, lastPass, TileOn, Ready};
 
 // Where a tile's blocks are drawn from: the last pass runs over a picture of w by h, in which the tile begins at (x, y).
 pub struct Source {
@@ -46,24 +48,24 @@ fn cells(scale: u32) -> u32
     1
 }
 
-// The most columns of a tile: 15 or 16 pixels of the source, as many as have their tags at once.
+// The most columns of a tile: of the source 15 or 16 pixels, of which COLUMNS have their tags at once.
 pub fn columns(scale: u32) -> u32
     ensures { λ r. ⌜ r ≡ columnsOf scale ⌝ }
 {
     if scale == NINE {
         return 5;
     }
-    16
+    COLUMNS
 }
 
-// The most rows of a tile: 12 pixels of the source.
+// The most rows of a tile: of the source 12 pixels.
 pub fn rows(scale: u32) -> u32
     ensures { λ r. ⌜ r ≡ rowsOf scale ⌝ }
 {
     if scale == NINE {
         return 4;
     }
-    12
+    ROWS
 }
 
 // Of the tile t, the n blocks from column i of row j on drawn by their tags, and no longer stale. The tags are those of the picture at the
