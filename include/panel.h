@@ -65,7 +65,7 @@
  * do not paint every pixel: store the words in the picture and open anew, which takes one opening and one refresh of
  * everything.
  * In a nine-times session a changed pixel makes at most 272 blocks stale, a rectangle round it; the first refresh of
- * everything took less than four times as long as panel_scale9x, one changed pixel less than a fiftieth of it.
+ * everything took three to four times as long as panel_scale9x, one changed pixel about a fiftieth of it.
  */
 #ifndef PANEL_H
 #define PANEL_H
