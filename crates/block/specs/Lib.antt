@@ -1,6 +1,13 @@
 pub mod Block
 pub mod Locality
-pub mod Window
-pub mod Passes
 pub mod Table
 pub mod Standard
+pub mod Store
+pub mod StoreLaws
+pub mod Placed
+pub mod Strips
+pub mod Drawn
+pub mod Copies
+pub mod Ring
+pub mod Claims
+pub mod Theorem

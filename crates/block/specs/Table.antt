@@ -1,5 +1,5 @@
--- The paper's table, T1 to T13, as one theorem: thirteen pairs of what the definitions give and what the
--- paper says, computed at once; the weights are those of the standard setting. Assumes nothing.
+-- The rules' table, T1 to T13, as one theorem: thirteen pairs of what the definitions give and what the
+-- rules say, computed at once; the weights are those of the standard setting. Assumes nothing.
 use mathlib.Core.Path.{_≡_, refl}
 use mathlib.Core.Bool.{Bool, true, false, _&&_}
 use mathlib.Core.List.{List, [], _∷_}
@@ -27,7 +27,7 @@ pub record Entry : Type 0 where
   pub given : ℕ
   pub tabled : ℕ
 
-abbrev entry : ℕ → ℕ → Entry
+abbrev pub entry : ℕ → ℕ → Entry
 entry g t = record { given = g; tabled = t }
 
 unfoldable pub table : List Entry

@@ -1,2 +1,3 @@
 pub mod Thresholds
 pub mod Numbers
+pub mod Claims

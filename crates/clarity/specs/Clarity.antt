@@ -3,7 +3,7 @@
 use mathlib.Core.Bool.{Bool, true, _&&_, _||_, cond}
 use Prim.Native.Nat.{ℕ}
 use lib.Dec.{eqb, ltb}
-use lib.Ieee.{Float, binary32, ofBits, toBits, lt, le}
+use lib.Ieee.{Float, binary32, ofBits, lt, le}
 use Rattle.clarity.specs.declared.Clarity.{Clarity}
 use Rattle.clarity.specs.declared.Clarity.the-variants.{Standard, Threshold, Gated}
 use Rattle.single.specs.Single.{f0, f½, f1}
@@ -45,13 +45,8 @@ settingOf kind threshold =
 abbrev pub clarityOf : ℕ → ℕ → Clarity
 clarityOf kind bits = settingOf kind (cond (eqb bits 0 || ltb 0x3f80_0000 bits) f0 (ofBits binary32 bits))
 
--- the numbers that a header is answered with
+-- a setting's kind
 abbrev pub kindOf : Clarity → ℕ
 kindOf Standard = 0
 kindOf (Threshold t) = 1
 kindOf (Gated t) = 2
-
-abbrev pub bitsOf : Clarity → ℕ
-bitsOf Standard = 0
-bitsOf (Threshold t) = toBits binary32 t
-bitsOf (Gated t) = toBits binary32 t

@@ -1,1 +1,2 @@
 pub mod Clarity
+pub mod Claims

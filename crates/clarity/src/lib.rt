@@ -1,9 +1,7 @@
 // A panel type's clarity: how strong an edge may be before it is left as it is. `specs/Clarity.antt` says which settings are lawful and
 // what the numbers of a C caller stand for; `weight/specs/Weight.antt` says what a setting does.
 ghost use mathlib.Core.Path.{_≡_};
-ghost use lib.Dec.{T};
-ghost use lib.Ieee.{binary32, toBits};
-ghost use Rattle.clarity.specs.Clarity.{lawfulSingle, lawfulOf, settingOf, clarityOf, kindOf, bitsOf};
+ghost use Rattle.clarity.specs.Clarity.{lawfulSingle, lawfulOf, settingOf, clarityOf, kindOf};
 
 // The source's threshold, another in its place, or another behind a gate.
 pub enum Clarity {
@@ -67,25 +65,5 @@ pub fn kind_of(clarity: Clarity) -> u32
         Clarity::Standard => 0,
         Clarity::Threshold(_) => 1,
         Clarity::Gated(_) => 2,
-    }
-}
-
-// The pattern of a lawful single, which is never that of a NaN.
-fn pattern(t: f32) -> u32
-    requires { ⌜ T (lawfulSingle t) ⌝ }
-    ensures { λ r. ⌜ (r ≡ toBits binary32 t) × ((clarityOf 1 r ≡ Clarity.Threshold t) × (clarityOf 2 r ≡ Clarity.Gated t)) ⌝ }
-{
-    f32::to_bits(t)
-}
-
-// The pattern of a setting's threshold, 0 at the standard. With the kind it stands for the setting again.
-pub fn bits_of(clarity: Clarity) -> u32
-    requires { ⌜ T (lawfulOf clarity) ⌝ }
-    ensures { λ r. ⌜ (r ≡ bitsOf clarity) × (clarityOf (kindOf clarity) r ≡ clarity) ⌝ }
-{
-    match clarity {
-        Clarity::Standard => 0,
-        Clarity::Threshold(t) => pattern(t),
-        Clarity::Gated(t) => pattern(t),
     }
 }

@@ -1,11 +1,11 @@
 // Three-times sessions at the edges of docs/RULES.md: each line is what a call answered, or words of the picture after it.
-use calls::PaintedList;
 use clarity::Clarity;
 use header::Header;
 use header::Rectangle;
 use libc::STDOUT_FILENO;
 use lines::line;
 use lines::number;
+use painted::PaintedList;
 use paints::Paint;
 use paints::none;
 use session3x::Session3x;

@@ -1,15 +1,11 @@
-// What the C face does for a session, once for both screens: the header is an array of eight numbers, w, h, left, top, width and height of
-// the lock, and kind and pattern of the setting of clarity; a paint of a list is one of three, column, row and word. The screen's number is
-// handed in; the C calls themselves are those of `panel`.
-use clarity::bits_of;
-use clarity::clarity_of;
-use clarity::kind_of;
+// What the C face does for a session, once for both screens: the header and the items of a list come as the arrays of numbers that `arrays`
+// reads and writes. The screen's number is handed in; the C calls themselves are those of `panel`.
+use arrays::header_of;
+use arrays::numbers_of;
+use arrays::paints_of;
 use clarity::setting_of;
-use header::Header;
 use header::Rectangle;
-use paints::Paint;
 use paints::few;
-use paints::none;
 ghost use mathlib.Core.Path.{_≡_};
 ghost use mathlib.Core.List.{map};
 ghost use Prim.Native.Nat.{_≤_};
@@ -20,45 +16,8 @@ ghost use Rattle.paints.specs.Paints.{gathered};
 ghost use Rattle.machine.specs.Screen.{blockWords};
 ghost use Rattle.machine.specs.Calls.{Opens, Paints, PaintLists, Refreshes, Shows, Locks};
 ghost use Rattle.screens.specs.Screens.{screenOf};
-ghost use Rattle.face.specs.Header.{headerOf, numbersOf};
-ghost use Rattle.face.specs.Item.{paintOf};
-
-// The header that its numbers stand for.
-fn header_of(numbers: &[u32; 8]) -> Header
-    ensures { λ r. ⌜ r ≡ headerOf (now (numbers .entry)) ⌝ }
-{
-    let clarity = clarity_of(numbers[6], numbers[7]);
-    Header {
-        w: numbers[0],
-        h: numbers[1],
-        lock: Rectangle {
-            left: numbers[2],
-            top: numbers[3],
-            width: numbers[4],
-            height: numbers[5],
-        },
-        clarity,
-    }
-}
-
-// The numbers of a header, which stand for it again.
-fn numbers_of(header: Header) -> [u32; 8]
-    requires { ⌜ T (lawfulOf (header .clarity)) ⌝ }
-    ensures { λ r. ⌜ (r ≡ numbersOf header) × (headerOf r ≡ header) ⌝ }
-{
-    let lock = header.lock;
-    let clarity = header.clarity;
-    [
-        header.w,
-        header.h,
-        lock.left,
-        lock.top,
-        lock.width,
-        lock.height,
-        kind_of(clarity),
-        bits_of(clarity),
-    ]
-}
+ghost use Rattle.arrays.specs.Header.{headerOf, numbersOf};
+ghost use Rattle.arrays.specs.Item.{paintOf};
 
 // A session opened on a picture, at the setting that a kind and a single stand for; its header and its stale count.
 pub fn open(
@@ -113,29 +72,10 @@ pub fn paint(
         }) ⌝ }
 {
     let lent = header_of(header);
-    let painted = calls::paint(scale, lent, picture, marks, column, row, word);
+    let painted = painted::paint(scale, lent, picture, marks, column, row, word);
     *changed = painted.changed;
     *stale = painted.stale;
     painted.refusal
-}
-
-// The paints that the first m items of a list stand for, by value.
-fn paints_of(items: &[[u32; 3]], m: usize) -> [Paint; 64]
-    requires { ⌜ (m ≤ length (now items)) × (m ≤ 64) ⌝ }
-    ensures { λ r. ⌜ r ≡ gathered (map paintOf (now (items .entry))) m ⌝ }
-{
-    let mut a = none();
-    let mut i: usize = 0;
-    while i < m {
-        let item = items[i];
-        a[i] = Paint {
-            column: item[0],
-            row: item[1],
-            word: item[2],
-        };
-        i += 1;
-    }
-    a
 }
 
 // The paints of a list, all or none.
@@ -159,7 +99,7 @@ pub fn paint_list(
     let lent = header_of(header);
     let n = items.len();
     let a = paints_of(items, few(n));
-    let painted = calls::paint_gathered(scale, lent, picture, marks, a, n);
+    let painted = painted::paint_gathered(scale, lent, picture, marks, a, n);
     *stale = painted.stale;
     painted.refusal
 }
@@ -186,7 +126,7 @@ pub fn refresh(
         }) ⌝ }
 {
     let lent = header_of(header);
-    let refreshed = calls::refresh(scale, lent, picture, output, marks, n);
+    let refreshed = refreshed::refresh(scale, lent, picture, output, marks, n);
     *drawn = refreshed.drawn;
     *left = refreshed.left;
     refreshed.refusal

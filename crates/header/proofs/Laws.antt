@@ -10,6 +10,7 @@ use borrow.Author.Tests.{ltb-true, ltb-false, leb-true, lt-ltb}
 use Rattle.picture.proofs.Bools.{or-none}
 use Rattle.header.specs.declared.Rectangle.{Rectangle}
 use Rattle.header.specs.Header.{locked, past}
+use Rattle.header.specs.Claims.{LockLaws}
 
 -- a test that leads to nothing does not hold
 no : (b : Bool) → (b ≡ true → ⊥) → b ≡ false
@@ -66,3 +67,6 @@ module _ (r : Rectangle) where
         omega (arith, i .1, ltb-false w (r .left + r .width) (ends .0)),
         omega (arith, i .3, ltb-false h (r .top + r .height) (ends .1)),
       )
+
+pub lock-laws : LockLaws
+lock-laws = record { none-locked = none-locked; locked-inside = locked-inside }

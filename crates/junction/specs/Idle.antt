@@ -7,10 +7,11 @@ use lib.Ieee.{sub, le, eq}
 use Rattle.metric.specs.declared.Pair.{Pair}
 use Rattle.metric.specs.declared.Weights.{Weights}
 use Rattle.single.specs.Single.{f0, _⊕_}
-use Rattle.junction.specs.declared.Triple.{Triple}
-use Rattle.junction.specs.declared.Corner.{Corner}
-use Rattle.junction.specs.Flags.{above, at0, at1, at2, at3, dominanceOf, voteOf, injectOf}
-use Rattle.junction.specs.Flags.{suppressOf, weightlessOf, activeCorners, numberOf}
+use Rattle.active_corners.specs.declared.Triple.{Triple}
+use Rattle.active_corners.specs.declared.Corner.{Corner}
+use Rattle.active_corners.specs.Active.{above, at0, at1, at2, at3, dominanceOf, voteOf, injectOf}
+use Rattle.active_corners.specs.Active.{suppressOf, weightlessOf, activeCorners}
+use Rattle.junction.specs.Flags.{numberOf}
 use Rattle.single.specs.Zero.{Zero, zero, neg-zero, add-zero, twice-zero, min-zero, lt-zero}
 
 abbrev none : Corner

@@ -8,12 +8,12 @@ use Rattle.metric.specs.declared.Metric.{Metric}
 use Rattle.metric.specs.declared.Pair.{Pair}
 use Rattle.metric.specs.declared.Weights.{Weights}
 use Rattle.single.specs.Single.{f0, f1, f2, f4, f8, _⊕_, _⊗_, minOf}
-use Rattle.junction.specs.declared.Triple.{Triple}
-use Rattle.junction.specs.declared.Corner.{Corner}
+use Rattle.active_corners.specs.declared.Triple.{Triple}
+use Rattle.active_corners.specs.declared.Corner.{Corner}
+use Rattle.active_corners.specs.Active.{above, dominanceOf, voteOf, injectOf, suppressOf, at0, at1, at2, at3, activeCorners}
 use Rattle.junction.specs.Junction.{inv, two, three, four, dominance, junctionCondition, majorityVote}
 use Rattle.junction.specs.Junction.{inject, suppress, activeOf, packed, packedOf, number, arbitrateJunctions}
-use Rattle.junction.specs.Flags.{above, bit, pair, dominanceOf, voteOf, injectOf, suppressOf, at0}
-use Rattle.junction.specs.Flags.{at1, at2, at3, activeCorners, conditionOf, numberOf, numbersOf}
+use Rattle.junction.specs.Flags.{bit, pair, conditionOf, numberOf, numbersOf}
 
 -- a flag as the source's single, and the source's sum of four of them
 abbrev pub fl : Bool → Float

@@ -198,7 +198,7 @@ module _ (S : Screen) (L : Lawful S) (w h : ℕ) (q : Clarity) (b : Buffers) whe
         accepted refused (record { output = t .output; marks = t .marks; refusal = 0; header = t .header; stale = stale }) done
         (record { output = b .output; marks = b .marks; refusal = refused; header = noHeader; stale = 0 }) refl (t .opens .is) refl
 
-    sizes : (sideLong (S .side) w h ≡ false) × (w * h ≤ length (b .picture)) × (lawfulOf q ≡ true)
+    pub sizes : (sideLong (S .side) w h ≡ false) × (w * h ≤ length (b .picture)) × (lawfulOf q ≡ true)
     unfolding refused
     sizes =
         let f = unmet (sideLong (S .side) w h) 0 _ (opening .0) in
@@ -264,7 +264,7 @@ module _ (S : Screen) (L : Lawful S) (w h : ℕ) (q : Clarity) (b : Buffers) whe
         ∙ block-drawn S L w h met good-met bx by x y f
         ∙ ap₂ (λ (c : Clarity) (p : List ℕ). S .draw c w h p bx by) setting-met (sym (holds .picture-same))
 
-    picture-met : length (take (w * h) (e .picture)) ≡ w * h
+    pub picture-met : length (take (w * h) (e .picture)) ≡ w * h
     picture-met = ap length (holds .picture-same) ∙ good-met .picture-length
 
     follows : Follows S w h q b stale cs rs last e

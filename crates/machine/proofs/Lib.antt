@@ -11,3 +11,4 @@ pub mod PaintEnds
 pub mod Turns
 pub mod ListEnds
 pub mod Locked
+pub mod Enlarged

@@ -160,12 +160,6 @@ count-le [] = omega arith
 count-le (true ∷ l) = omega (arith, count-le l)
 count-le (false ∷ l) = omega (arith, count-le l)
 
--- where as many are true as there are, all are
-pub all-true : (l : List Bool) → count l ≡ length l → l ≡ replicate (length l) true
-all-true [] e = refl
-all-true (true ∷ l) e = ap {B = List Bool} (λ r. true ∷ r) (all-true l (omega arith))
-all-true (false ∷ l) e = absurd (omega (arith, count-le l))
-
 pub count-append : (l r : List Bool) → count (l ++ r) ≡ count l + count r
 count-append [] r = omega arith
 count-append (true ∷ l) r = omega (arith, count-append l r)

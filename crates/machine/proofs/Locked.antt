@@ -1,7 +1,7 @@
 -- What a lock is for: the words inside it stay through every list of calls without a lock, whatever it paints. Assumes nothing.
 use mathlib.Core.Path.{_≡_, refl, sym, ap, ap₂, _∙_}
 use mathlib.Core.Bool.{true, false, true≢false}
-use mathlib.Core.List.{List, [], _∷_}
+use mathlib.Core.List.{List}
 use Prim.Native.Nat.{ℕ, _+_, _*_, _<_}
 use native.Mathlib.Omega.{arith}
 use lib.ListN.{getD, drop, List·getD-append}
@@ -10,22 +10,14 @@ use Rattle.clarity.specs.declared.Clarity.{Clarity}
 use Rattle.header.specs.declared.Header.{Header}
 use Rattle.header.specs.Header.{locked}
 use Rattle.header.proofs.Laws.{locked-inside}
-use Rattle.paints.specs.declared.Paint.{Paint as Item}
 use Rattle.machine.specs.Screen.{Screen, Lawful}
 use Rattle.machine.specs.Machine.{State, Call, Paint, PaintList, Refresh, Show, Answer, store, step, after}
+use Rattle.machine.specs.Claims.{LocksNothing, none, paint, paint-list, refresh, show, LockedStays}
 use Rattle.machine.specs.Demand3.{Buffers, Ran, Trace}
 use Rattle.machine.proofs.Places.{block-lt, digits-same}
 use Rattle.machine.proofs.Good.{Good}
 use Rattle.machine.proofs.Demand3.{good-step, good-after, met, good-met, more, ended}
 use Rattle.machine.proofs.Items.{by-paint, by-list}
-
--- a list of calls without a lock
-pub data LocksNothing : List Call → Type 0 where
-  none : LocksNothing []
-  paint : {cs : List Call} {column row word : ℕ} → LocksNothing cs → LocksNothing (Paint column row word ∷ cs)
-  paint-list : {cs : List Call} {items : List Item} → LocksNothing cs → LocksNothing (PaintList items ∷ cs)
-  refresh : {cs : List Call} {n : ℕ} → LocksNothing cs → LocksNothing (Refresh n ∷ cs)
-  show : {cs : List Call} {bx by : ℕ} → LocksNothing cs → LocksNothing (Show bx by ∷ cs)
 
 module _ (S : Screen) (L : Lawful S) (w h column row : ℕ) where
   -- the word at (column, row)
@@ -58,13 +50,13 @@ module _ (S : Screen) (L : Lawful S) (w h column row : ℕ) where
   locked-kept (refresh {n = n} r) s g e = locked-kept r (step S w h (Refresh n) s .0) (good-step S L w h (Refresh n) s g) e
   locked-kept (show r) s g e = locked-kept r s g e
 
--- from wherever a list ended: what its last header locks, a further list without a lock leaves in the picture buffer as it was
+-- from wherever a list ended
 module _ (S : Screen) (L : Lawful S) {w h stale : ℕ} {c : Clarity} {b e : Buffers} {cs : List Call} {rs : List Answer} {last : Header}
     (t : Trace S w h c b stale cs rs last e) where
-  pub locked-stays : {more-calls : List Call} {rs′ : List Answer} {last′ : Header} {e′ : Buffers} → LocksNothing more-calls
+  kept-through : {more-calls : List Call} {rs′ : List Answer} {last′ : Header} {e′ : Buffers} → LocksNothing more-calls
       → Ran S last e more-calls rs′ last′ e′ → (column row : ℕ) → locked (last .lock) column row ≡ true
       → getD (e′ .picture) (row * w + column) 0 ≡ getD (e .picture) (row * w + column) 0
-  locked-stays {more-calls} n r column row k =
+  kept-through {more-calls} n r column row k =
       let m = met S L w h c b t in
       let g = good-met S L w h c b t in
       let now = ended S L w h c b t in
@@ -79,3 +71,6 @@ module _ (S : Screen) (L : Lawful S) {w h stale : ℕ} {c : Clarity} {b e : Buff
       ∙ locked-kept S L w h column row n m g e
       ∙ sym (List·getD-append (m .picture) (drop (w * h) (b .picture)) 0 (row * w + column) (omega (arith, at, g .picture-length)))
       ∙ ap (λ (d : Buffers). getD (d .picture) (row * w + column) 0) (sym (now .1))
+
+pub locked-stays : (S : Screen) → Lawful S → LockedStays S
+locked-stays S L = record { locked-stays = λ t n r column row k. kept-through S L t n r column row k }

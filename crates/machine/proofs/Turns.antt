@@ -16,6 +16,7 @@ use Rattle.machine.specs.Screen.{Screen}
 use Rattle.machine.specs.Machine.{orElse, inside}
 use Rattle.machine.specs.Calls.{refusalWord, refusalLent, refusalList, PaintEnd, paintEnd, itemsEnd}
 use Rattle.machine.specs.Items.{refusalItems}
+use Rattle.machine.specs.Claims.{ItemsAtStart}
 use Rattle.machine.proofs.Places.{digits-same}
 use Rattle.machine.proofs.Held.{inside-of}
 use Rattle.machine.proofs.Ends.{decided, lent-after, lent-paint}
@@ -103,3 +104,6 @@ module _ (S : Screen) (header : Header) where
       ⊎-elim (λ t. t .1 _ ∙ sym (t .1 _))
       (λ q. q _ ∙ ap (λ (x : ℕ). cond (ltb 64 n) 12 x) (at-its-turn (length p) (length m) q p items p m refl refl (λ c r x y k. refl)) ∙ sym (q _))
       (decided (S .side) header (length p) (length m))
+
+pub items-at-start : (S : Screen) → ItemsAtStart S
+items-at-start S = record { number-at-start = number-at-start S }

@@ -1,5 +1,5 @@
 -- Demand 3, for a screen: what holds of every list of calls on a freshly opened session, each call being bound by its contract alone.
--- Definitions only; `session/proofs/Theorem.antt` proves it of the three-times screen.
+-- Definitions only; `every` in `proofs/Demand3.antt` proves it of every lawful screen, and the crate `promise` asks for it of both screens.
 use mathlib.Core.Path.{_≡_}
 use mathlib.Core.Bool.{Bool, true, false, cond}
 use mathlib.Core.List.{List, [], _∷_, map}

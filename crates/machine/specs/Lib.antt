@@ -5,5 +5,6 @@ pub mod Calls
 pub mod Demand3
 pub mod Lent
 pub mod Items
+pub mod Claims
 pub mod Examples
 pub mod ListExamples

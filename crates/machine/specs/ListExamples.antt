@@ -72,17 +72,6 @@ leaves a b x y stale = record { picture = a ∷ b ∷ 9 ∷ 1 ∷ []; marks = x 
 abbrev refused : ℕ → PaintListEnd
 refused number = record { picture = 7 ∷ 8 ∷ 9 ∷ 1 ∷ []; marks = 0 ∷ 3 ∷ 0 ∷ 4 ∷ []; refusal = number; stale = 0 }
 
-pub call-lists : (called none ≡ leaves 7 8 0 3 1)
-    × (called two ≡ leaves 5 6 1 1 2)
-    × (called twice ≡ leaves 6 8 1 3 2)
-    × (called back ≡ leaves 7 8 1 3 2)
-    × (called equal ≡ leaves 5 8 1 3 2)
-    × (called other ≡ refused refusal.locked)
-    × (called outside ≡ refused refusal.outside)
-    × (called inside ≡ refused refusal.locked)
-unfolding past locked paintEnd paintListEnd
-call-lists = (refl, refl, refl, refl, refl, refl, refl, refl)
-
 -- ---- the machine
 abbrev start : State
 start = record { picture = 7 ∷ 8 ∷ 9 ∷ []; stale = false ∷ true ∷ false ∷ []; output = 7 ∷ 8 ∷ 9 ∷ []; lock = last; clarity = Standard }
@@ -94,20 +83,35 @@ done items = step small 3 1 (PaintList items) start
 abbrev with : ℕ → ℕ → State
 with a b = record { picture = a ∷ b ∷ 9 ∷ []; stale = true ∷ true ∷ false ∷ []; output = 7 ∷ 8 ∷ 9 ∷ []; lock = last; clarity = Standard }
 
-pub machine-lists : (done none ≡ (start, PaintedList 0 1))
-    × (done two ≡ (with 5 6, PaintedList 0 2))
-    × (done twice ≡ (with 6 8, PaintedList 0 2))
-    × (done back ≡ (with 7 8, PaintedList 0 2))
-    × (done equal ≡ (with 5 8, PaintedList 0 2))
-    × (done other ≡ (start, PaintedList refusal.locked 0))
-    × (done outside ≡ (start, PaintedList refusal.outside 0))
-    × (done inside ≡ (start, PaintedList refusal.locked 0))
-unfolding past locked
-machine-lists = (refl, refl, refl, refl, refl, refl, refl, refl)
+-- ---- what comes of the lists
+pub record ListExamples : Type 0 where
+  -- what the call leaves and answers
+  pub call-lists : (called none ≡ leaves 7 8 0 3 1)
+      × (called two ≡ leaves 5 6 1 1 2)
+      × (called twice ≡ leaves 6 8 1 3 2)
+      × (called back ≡ leaves 7 8 1 3 2)
+      × (called equal ≡ leaves 5 8 1 3 2)
+      × (called other ≡ refused refusal.locked)
+      × (called outside ≡ refused refusal.outside)
+      × (called inside ≡ refused refusal.locked)
+  -- what the machine does
+  pub machine-lists : (done none ≡ (start, PaintedList 0 1))
+      × (done two ≡ (with 5 6, PaintedList 0 2))
+      × (done twice ≡ (with 6 8, PaintedList 0 2))
+      × (done back ≡ (with 7 8, PaintedList 0 2))
+      × (done equal ≡ (with 5 8, PaintedList 0 2))
+      × (done other ≡ (start, PaintedList refusal.locked 0))
+      × (done outside ≡ (start, PaintedList refusal.outside 0))
+      × (done inside ≡ (start, PaintedList refusal.locked 0))
+  -- what a loop over the items finds
+  pub found-lists : (refusalItems header (7 ∷ 8 ∷ 9 ∷ []) equal ≡ refusal.none)
+      × (refusalItems header (7 ∷ 8 ∷ 9 ∷ []) outside ≡ refusal.outside)
+      × (refusalItems header (7 ∷ 8 ∷ 9 ∷ []) inside ≡ refusal.locked)
 
--- ---- a loop over the items
-pub found-lists : (refusalItems header (7 ∷ 8 ∷ 9 ∷ []) equal ≡ refusal.none)
-    × (refusalItems header (7 ∷ 8 ∷ 9 ∷ []) outside ≡ refusal.outside)
-    × (refusalItems header (7 ∷ 8 ∷ 9 ∷ []) inside ≡ refusal.locked)
-unfolding locked
-found-lists = (refl, refl, refl)
+pub list-examples : ListExamples
+unfolding past locked paintEnd paintListEnd
+list-examples = record {
+  call-lists = (refl, refl, refl, refl, refl, refl, refl, refl);
+  machine-lists = (refl, refl, refl, refl, refl, refl, refl, refl);
+  found-lists = (refl, refl, refl);
+}

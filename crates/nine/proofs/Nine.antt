@@ -9,14 +9,17 @@ use Rattle.picture.specs.Local.{Agree}
 use Rattle.clarity.specs.declared.Clarity.{Clarity}
 use Rattle.clarity.specs.Clarity.{plainly}
 use Rattle.block.specs.Block.{blockOf}
+use Rattle.block.specs.Claims.{PixelOf}
+use Rattle.block.specs.Theorem.{block-laws}
 use Rattle.block.specs.Locality.{cross}
 use Rattle.block.specs.Standard.{block-settings}
 use Rattle.machine.specs.Lists.{table}
 use Rattle.machine.specs.Screen.{Lawful}
-use Rattle.machine.proofs.Lists.{table-same}
+use Rattle.machine.proofs.Lists.{table-same, getD-table}
 use Rattle.machine.proofs.Places.{front}
 use Rattle.marks.proofs.Box.{in-box}
 use Rattle.nine.specs.Nine.{enlarged, enlargedTwice, draw9, screen9}
+use Rattle.nine.specs.Claims.{BlockLaws9}
 
 -- the word c columns and r rows from the first word of block (x, y) on
 pub enlarged-at : (q : Clarity) (w h : ℕ) (f : ℕ → ℕ → ℕ) (x y c r : ℕ)
@@ -62,6 +65,37 @@ pub box9-local : (q : Clarity) (w h : ℕ) (p r : List ℕ) (bx by : ℕ) → bx
     → draw9 q w h p bx by ≡ draw9 q w h r bx by
 box9-local q w h p r bx by hx hy e =
     table-same 81 _ _ (λ k hk. twice-local q w h (words w p) (words w r) bx by hx hy e (k % 9) (k / 9) (omega arith) (omega arith))
+
+-- ---- every word is one of the picture's
+
+-- a word of what comes out stands at a place of the picture
+enlarged-pixel : (q : Clarity) (w h : ℕ) (f : ℕ → ℕ → ℕ) (x y : ℕ) → x < 3 * w → y < 3 * h → PixelOf w h f (enlarged q w h f x y)
+unfolding enlarged
+enlarged-pixel q w h f x y hx hy =
+    block-laws .own-words q w h f (x / 3) (y / 3) (omega arith) (omega arith) (3 * (y % 3) + x % 3) (omega arith)
+
+-- and one of what comes out of that
+twice-pixel : (q : Clarity) (w h : ℕ) (f : ℕ → ℕ → ℕ) (x y : ℕ) → x < 9 * w → y < 9 * h → PixelOf w h f (enlargedTwice q w h f x y)
+unfolding enlargedTwice
+twice-pixel q w h f x y hx hy =
+    let m = enlarged-pixel q (3 * w) (3 * h) (enlarged q w h f) x y (omega arith) (omega arith) in
+    let n = enlarged-pixel q w h f (m .column) (m .row) (m .on-x) (m .on-y) in
+    record { column = n .column; row = n .row; on-x = n .on-x; on-y = n .on-y; is = m .is ∙ n .is }
+
+own-words9 : (q : Clarity) (w h : ℕ) (p : List ℕ) (bx by : ℕ) → bx < w → by < h
+    → (k : ℕ) → k < 81 → PixelOf w h (words w p) (getD (draw9 q w h p bx by) k 0)
+own-words9 q w h p bx by hx hy k l =
+    let m = twice-pixel q w h (words w p) (9 * bx + k % 9) (9 * by + k / 9) (omega arith) (omega arith) in
+    record {
+      column = m .column;
+      row = m .row;
+      on-x = m .on-x;
+      on-y = m .on-y;
+      is = getD-table 81 (λ k. enlargedTwice q w h (words w p) (9 * bx + k % 9) (9 * by + k / 9)) k 0 l ∙ m .is;
+    }
+
+pub block-laws9 : BlockLaws9
+block-laws9 = record { own-words9 = own-words9; box9-local = box9-local }
 
 -- ---- settings that count as equal
 

@@ -12,9 +12,9 @@ use lib.Seq.{ext-getD}
 use Rattle.picture.specs.Picture.{words}
 use Rattle.clarity.specs.declared.Clarity.{Clarity}
 use Rattle.block.specs.Block.{blockOf}
-use Rattle.stored.specs.Store.{putRect}
-use Rattle.stored.specs.StoreLaws.{rect-long}
-use Rattle.stored.specs.Placed.{lines, rect-at, rect-other}
+use Rattle.block.specs.Store.{putRect}
+use Rattle.block.specs.StoreLaws.{rect-long}
+use Rattle.block.specs.Placed.{lines, rect-at, rect-other}
 use Rattle.machine.specs.Lists.{has}
 use Rattle.machine.specs.Screen.{place}
 use Rattle.machine.specs.Machine.{putAll}

@@ -11,9 +11,9 @@ use Rattle.clarity.specs.declared.Clarity.{Clarity}
 use Rattle.grid.specs.declared.Grid.{Grid}
 use Rattle.block.specs.Block.{blockOf}
 use Rattle.block.specs.Locality.{in-window}
-use Rattle.block.specs.Window.{ringOf}
-use Rattle.stored.specs.Store.{putRect}
-use Rattle.stored.specs.Placed.{rect-at}
+use Rattle.block.specs.Ring.{ringOf}
+use Rattle.block.specs.Store.{putRect}
+use Rattle.block.specs.Placed.{rect-at}
 use Rattle.nine.specs.Nine.{enlarged}
 use Rattle.nine.proofs.Nine.{enlarged-at}
 

@@ -13,6 +13,7 @@ use Rattle.picture.proofs.Bools.{or-left, or-right, or-none}
 use Rattle.picture.specs.Fill.{put}
 use Rattle.picture.specs.Refusal.{none, side, picture, trailer}
 use Rattle.page.specs.Page.{width, height, back, mark, page, same, badTrailer, broken, wide, wordsFrom, pixels, readRefusal, beside, readOf, pictureOf, Reads}
+use Rattle.page.specs.Claims.{WholeFile}
 use Rattle.page.specs.declared.PageRead.{PageRead}
 
 -- one element stored
@@ -119,6 +120,9 @@ module _ (f : List ℕ) (room : ℕ) (r : PageRead) (e : r ≡ readOf f room) wh
 
     pub all-of-it : (length f ≡ 12 + 4 * (r .w * r .h)) × (r .w * r .h ≤ room)
     all-of-it = let s = is-sound in (omega (arith, count-is), omega (arith, count-is))
+
+pub whole-file : WholeFile
+whole-file = record { first-byte = first-byte; all-of-it = all-of-it }
 
 module _ (f before : List ℕ) (r : PageRead) (e : r ≡ readOf f (length before)) where
   -- on a refusal the buffer is as it was

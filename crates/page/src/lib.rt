@@ -1,4 +1,4 @@
-// The page file: pixels as little-endian words, then a trailer of twelve bytes at the file's end.
+// The reader of a page file: pixels as little-endian words, then a trailer of twelve bytes at the file's end.
 ghost use mathlib.Core.Path.{_≡_};
 ghost use Prim.Native.Nat.{_+_, _*_, _^_, _<_, _≤_};
 ghost use lib.ListN.{length};

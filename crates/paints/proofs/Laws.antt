@@ -14,7 +14,7 @@ use Rattle.paints.specs.Paints.{blank, blanks, gathered, fewOf, listed}
 pub length-gathered : (items : List Paint) (m : ℕ) → length (gathered items m) ≡ 64
 unfolding blanks
 length-gathered items zero = length-replicate 64 blank
-length-gathered items (suc m) = length-set (gathered items m) m (getD items m blank) ∙ length-gathered items m
+length-gathered items (suc m) = length-set (gathered items m) m _ ∙ length-gathered items m
 
 first-same : (items : List Paint) (m : ℕ) → m ≤ length items → m ≤ 64 → take m (gathered items m) ≡ take m items
 first-same items zero h k = refl

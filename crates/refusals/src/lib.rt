@@ -1,22 +1,17 @@
-// Why a call of a session is refused: the number of the first condition that holds, 0 for none. side is the screen's limit of a side, words
-// how many words a block has; header is the one that the call is lent, or is to answer; p, o and m are the lengths of the picture, the
-// output and the marks. No screen has a longer side than 2,048, nor a block of more than 81 words, as many as nine-times makes of a pixel:
-// so no product wraps.
+// Why a call of a session is refused: the number of the first condition that holds, 0 for none. What a paint's place, word and list are
+// refused for is in `paint_refusals`. side is the screen's limit of a side, words how many words a block has; header is the one that the
+// call is lent, or is to answer; p, o and m are the lengths of the picture, the output and the marks. No screen has a longer side than
+// 2,048, nor a block of more than 81 words, as many as nine-times makes of a pixel: so no product wraps.
 use clarity::lawful;
 use header::Header;
 use header::Rectangle;
-use header::locked;
 use header::past;
-use paints::LIMIT;
-use paints::Paint;
 use picture::refusal;
 ghost use mathlib.Core.Path.{_≡_};
-ghost use Prim.Native.Nat.{_*_, _≤_};
-ghost use lib.ListN.{length, take};
+ghost use Prim.Native.Nat.{_≤_};
 ghost use Rattle.picture.specs.Refusal.{none};
 ghost use Rattle.machine.specs.Calls.{sideLong, refusalHeader, refusalClarity, refusalAll, refusalLent};
-ghost use Rattle.machine.specs.Calls.{refusalWord, refusalPaint, refusalList, refusalShow, refusalLock};
-ghost use Rattle.machine.specs.Items.{refusalItems};
+ghost use Rattle.machine.specs.Calls.{refusalShow, refusalLock};
 
 // A side past its limit.
 fn side_long(side: u32, w: u32, h: u32) -> bool
@@ -74,7 +69,7 @@ pub fn refuse_all(side: u32, words: usize, header: Header, p: usize, o: usize, m
 }
 
 // Of a call that is lent picture and marks, and no output, by the header, their lengths and the setting.
-fn refuse_lent(side: u32, header: Header, p: usize, m: usize) -> u32
+pub fn refuse_lent(side: u32, header: Header, p: usize, m: usize) -> u32
     requires { ⌜ side ≤ 2048 ⌝ }
     ensures { λ r. ⌜ r ≡ refusalLent side header p m none ⌝ }
 {
@@ -92,83 +87,6 @@ fn refuse_lent(side: u32, header: Header, p: usize, m: usize) -> u32
         return refusal::SCRATCH;
     }
     refuse_clarity(header)
-}
-
-// Of one word at (column, row). A word that is there already is not refused, be it locked or not.
-fn refuse_word(header: Header, picture: &[u32], column: u32, row: u32, word: u32) -> u32
-    requires { ⌜ (header .w * header .h ≤ 4194304) × (header .w * header .h ≤ length (now picture)) ⌝ }
-    ensures { λ r. ⌜ r ≡ refusalWord header (now (picture .entry)) column row word ⌝ }
-{
-    let w = header.w;
-    let h = header.h;
-    if (column < w) & (row < h) {
-        let old = picture[(row as usize) * (w as usize) + (column as usize)];
-        if (word != old) & locked(header.lock, column, row) {
-            return refusal::LOCKED;
-        }
-        return refusal::NONE;
-    }
-    refusal::OUTSIDE
-}
-
-// Of a paint.
-pub fn refuse_paint(
-    side: u32,
-    header: Header,
-    picture: &[u32],
-    m: usize,
-    column: u32,
-    row: u32,
-    word: u32,
-) -> u32
-    requires { ⌜ side ≤ 2048 ⌝ }
-    ensures { λ r. ⌜ r ≡ refusalPaint side header (now (picture .entry)) m column row word ⌝ }
-{
-    let first = refuse_lent(side, header, picture.len(), m);
-    if first != 0 {
-        return first;
-    }
-    refuse_word(header, picture, column, row, word)
-}
-
-// Of the first n items of a, by the picture as it stands: the first number that is not 0.
-fn refuse_items(header: Header, picture: &[u32], a: [Paint; 64], n: usize) -> u32
-    requires { ⌜ (header .w * header .h ≤ 4194304) × ((header .w * header .h ≤ length (now picture)) × (n ≤ 64)) ⌝ }
-    ensures { λ r. ⌜ r ≡ refusalItems header (now (picture .entry)) (take n a) ⌝ }
-{
-    let mut i: usize = 0;
-    while i < n {
-        let p = a[i];
-        let first = refuse_word(header, picture, p.column, p.row, p.word);
-        if first != 0 {
-            return first;
-        }
-        i += 1;
-    }
-    refusal::NONE
-}
-
-// Of a list of n items, of which a has the first.
-pub fn refuse_list(
-    side: u32,
-    header: Header,
-    picture: &[u32],
-    m: usize,
-    a: [Paint; 64],
-    n: usize,
-) -> u32
-    requires { ⌜ side ≤ 2048 ⌝ }
-    ensures { λ r. ⌜ r ≡ refusalList side header (length (now (picture .entry))) m n
-        (refusalItems header (now (picture .entry)) (take n a)) ⌝ }
-{
-    let first = refuse_lent(side, header, picture.len(), m);
-    if first != 0 {
-        return first;
-    }
-    if LIMIT < n {
-        return refusal::ITEMS;
-    }
-    refuse_items(header, picture, a, n)
 }
 
 // Of a show of block (bx, by), which looks at the block's mark too.

@@ -1,18 +1,20 @@
 // The three-times session: a picture that is painted word by word or by lists of words, and its enlarged output, in which a refresh redraws
-// the blocks that a paint made stale; one rectangle of the picture can be locked against paints. The calls are those of `calls`, at the
-// three-times screen. `machine/specs/Calls.antt` says what each call leaves and answers, `Machine.antt` beside it is the plain machine,
-// `Demand3.antt` says what holds of every list of calls, and `proofs/Theorem.antt` here proves it of this session.
-use calls::Painted;
-use calls::PaintedList;
-use calls::Refreshed;
+// the blocks that a paint made stale; one rectangle of the picture can be locked against paints. The calls are those of `calls`, `painted`
+// and `refreshed`, at the three-times screen. `machine/specs/Calls.antt` says what each call leaves and answers, `Machine.antt` beside it
+// is the plain machine, `Demand3.antt` says what holds of every list of calls, and `promise/specs/Promise.antt` asks for that of this
+// screen.
 use clarity::Clarity;
+use gathered::gather;
 use header::Header;
 use header::Rectangle;
+use painted::Painted;
+use painted::PaintedList;
 use paints::Paint;
 use paints::few;
-use paints::gather;
+use refreshed::Refreshed;
 use screens::SIDE_THREE;
 use screens::THREE;
+ghost use mathlib.Core.Path.{_≡_};
 ghost use Rattle.machine.specs.Calls.{Opens, Paints, PaintLists, Refreshes, Shows, Locks};
 ghost use Rattle.paints.specs.Paints.{listed};
 ghost use Rattle.three.specs.Three.{screen3};
@@ -41,6 +43,13 @@ pub struct Locked {
 impl Session3x {
     // The limit of w and of h.
     pub const SIDE: u32 = SIDE_THREE;
+
+    // The same, as a call that promises it.
+    pub fn side() -> u32
+        ensures { λ r. ⌜ r ≡ screen3 .side ⌝ }
+    {
+        Session3x::SIDE
+    }
 
     // A session on the picture: the output's words are made 0, every block stale, and nothing is locked.
     pub fn open(
@@ -87,7 +96,7 @@ impl Session3x {
               stale = r .stale;
             }) ⌝ }
     {
-        calls::paint(THREE, self.header, picture, marks, column, row, word)
+        painted::paint(THREE, self.header, picture, marks, column, row, word)
     }
 
     // The paints of a list, all of them in its order or, where one would be refused at its turn, none.
@@ -122,7 +131,7 @@ impl Session3x {
               stale = r .stale;
             }) ⌝ }
     {
-        calls::paint_gathered(THREE, self.header, picture, marks, a, n)
+        painted::paint_gathered(THREE, self.header, picture, marks, a, n)
     }
 
     // The first n stale blocks in row order redrawn from the picture.
@@ -136,7 +145,7 @@ impl Session3x {
               left = r .left;
             }) ⌝ }
     {
-        calls::refresh(THREE, self.header, picture, output, marks, n)
+        refreshed::refresh(THREE, self.header, picture, output, marks, n)
     }
 
     // The words of block (bx, by).

@@ -1,17 +1,19 @@
-// The nine-times session: as the three-times one, with a block of 9 by 9 words for each pixel and sides of at most 682. The calls are
-// those of `calls`, at the nine-times screen. `machine/specs/Calls.antt` says what each call leaves and answers, `Machine.antt` beside it
-// is the plain machine, `Demand3.antt` says what holds of every list of calls, and `proofs/Theorem.antt` here proves it of this session.
-use calls::Painted;
-use calls::PaintedList;
-use calls::Refreshed;
+// The nine-times session: as the three-times one, with a block of 9 by 9 words for each pixel and sides of at most 682. The calls are those
+// of `calls`, `painted` and `refreshed`, at the nine-times screen. `machine/specs/Calls.antt` says what each call leaves and answers,
+// `Machine.antt` beside it is the plain machine, `Demand3.antt` says what holds of every list of calls, and `promise/specs/Promise.antt`
+// asks for that of this screen.
 use clarity::Clarity;
+use gathered::gather;
 use header::Header;
 use header::Rectangle;
+use painted::Painted;
+use painted::PaintedList;
 use paints::Paint;
 use paints::few;
-use paints::gather;
+use refreshed::Refreshed;
 use screens::NINE;
 use screens::SIDE_NINE;
+ghost use mathlib.Core.Path.{_≡_};
 ghost use Rattle.machine.specs.Calls.{Opens, Paints, PaintLists, Refreshes, Shows, Locks};
 ghost use Rattle.paints.specs.Paints.{listed};
 ghost use Rattle.nine.specs.Nine.{screen9};
@@ -40,6 +42,13 @@ pub struct Locked {
 impl Session9x {
     // The limit of w and of h.
     pub const SIDE: u32 = SIDE_NINE;
+
+    // The same, as a call that promises it.
+    pub fn side() -> u32
+        ensures { λ r. ⌜ r ≡ screen9 .side ⌝ }
+    {
+        Session9x::SIDE
+    }
 
     // A session on the picture: the output's words are made 0, every block stale, and nothing is locked.
     pub fn open(
@@ -86,7 +95,7 @@ impl Session9x {
               stale = r .stale;
             }) ⌝ }
     {
-        calls::paint(NINE, self.header, picture, marks, column, row, word)
+        painted::paint(NINE, self.header, picture, marks, column, row, word)
     }
 
     // The paints of a list, all of them in its order or, where one would be refused at its turn, none.
@@ -121,7 +130,7 @@ impl Session9x {
               stale = r .stale;
             }) ⌝ }
     {
-        calls::paint_gathered(NINE, self.header, picture, marks, a, n)
+        painted::paint_gathered(NINE, self.header, picture, marks, a, n)
     }
 
     // The first n stale blocks in row order redrawn from the picture.
@@ -135,7 +144,7 @@ impl Session9x {
               left = r .left;
             }) ⌝ }
     {
-        calls::refresh(NINE, self.header, picture, output, marks, n)
+        refreshed::refresh(NINE, self.header, picture, output, marks, n)
     }
 
     // The words of block (bx, by).

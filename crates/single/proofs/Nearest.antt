@@ -1,31 +1,18 @@
--- What the proofs of the root's steps share: the certificate's bounds, the parts of a single, and the pattern that is put together of them. Assumes nothing.
+-- What the proofs of the root's steps share: the parts of a single, and the pattern that is put together of them. Assumes nothing.
 use mathlib.Core.Path.{_≡_, sym, ap, _∙_}
 use mathlib.Core.Logic.{inl, inr}
 use Prim.Native.Nat.{ℕ, suc, _+_, _-_, _*_, _/_, _%_, _^_, _≤_, _<_}
-use native.Mathlib.Nat.{le-trans, le-of-eq, le-of-lt, lt-of-le-of-lt, lt-of-lt-of-le, lt-of-not-le, not-le-of-lt, eq-or-lt-of-le, add-assoc, add-mul, mul-add, mul-one, one-mul, mul-assoc}
-use native.Mathlib.Nat.{mul-le-mul, mul-le-mul-left, mul-le-mul-right, mul-lt-mul-of-pos-right, mul-pos, mod-eq-of-lt}
+use native.Mathlib.Nat.{le-trans, le-of-eq, le-of-lt, lt-of-lt-of-le, lt-of-not-le, not-le-of-lt, eq-or-lt-of-le, add-assoc, add-mul, mul-assoc}
+use native.Mathlib.Nat.{mul-le-mul, mul-le-mul-right, mul-lt-mul-of-pos-right, mul-pos, mod-eq-of-lt}
 use native.Mathlib.Omega.{arith}
-use lib.Dec.{T, ltb, ltb→lt, lit≤}
+use lib.Dec.{lit≤}
 use lib.Pow.{pow-add, pow-pos, pow-mono, shl-lt, shl-exact}
 use lib.Count.{leadingZeros, leading-top}
-use mir.Syntax.{w64}
-use mir.Val.{Fits}
+use Rattle.integer_root.specs.Near.{Near}
+use Rattle.integer_root.proofs.Certificate.{square-next}
 use Rattle.single.specs.Root.{single, rootBits}
-use Rattle.single.specs.Near.{Near, PartsOf}
+use Rattle.single.specs.Parts.{PartsOf}
 use Rattle.single.specs.Laws.{lt-or-ge, single-low, single-high, single-at, single-mono, middle², root², reaches-i, short-i, Ends, rootBits-is, sq-scale, sq-next}
-
--- ---- the certificate bounds r
-pub near-range : (w r : ℕ) → 2 ^ 46 ≤ w → w ≤ 2 ^ 48 - 2 ^ 24 → r * r < w + r → w ≤ r * r + r → Near w r
-near-range w r a b over less = record { lo = low; hi = high; over = over; less = less }
-  where
-    low : 2 ^ 23 ≤ r
-    low = elim (lt-or-ge r (2 ^ 23)) [ inl l ↦ absurd (omega (arith, mul-le-mul-left r (le-of-lt l))) | inr l ↦ l ]
-
-    high : r < 2 ^ 24
-    high = elim (lt-or-ge r (2 ^ 24)) [ inl l ↦ l | inr l ↦ absurd (omega (arith, mul-le-mul-left r l)) ]
-
-pub square-next : (q : ℕ) → (q + 1) * (q + 1) ≡ q * q + 2 * q + 1
-square-next q = simp (mul-add, add-mul, mul-one, one-mul) (omega arith)
 
 -- ---- where n units are scaled to w * 4 ^ j, with w of 47 or 48 digits, r is the whole number nearest w's root: the root's pattern has the digits r and the field j + 1
 module _ (n w j r : ℕ) (scaled : n * 2 ^ 149 ≡ w * (2 ^ j * 2 ^ j)) (big : 2 ^ 46 ≤ w) (near : Near w r) where
@@ -133,7 +120,3 @@ high-parts b h k =
           ∙ mul-assoc (2 ^ 23 + b % 2 ^ 23) (2 ^ (b / 2 ^ 23 - 1)) (2 ^ 126)
           ∙ ap (λ (x : ℕ). (2 ^ 23 + b % 2 ^ 23) * x) (sym (pow-add 2 (b / 2 ^ 23 - 1) 126) ∙ ap (λ (x : ℕ). 2 ^ x) parts);
     }
-
--- ---- a product fits where its bounds' product does
-pub product-fits : (a b m n : ℕ) → a ≤ m → b ≤ n → T (ltb (m * n) (2 ^ 64)) → Fits w64 (a * b)
-product-fits a b m n h k t = record { fits = lt-of-le-of-lt (mul-le-mul h k) (ltb→lt (m * n) (2 ^ 64) t) }

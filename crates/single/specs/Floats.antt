@@ -1,4 +1,4 @@
--- Laws of `sqrtOf` on the values themselves, which `RootTheorems.antt` states together. Assumes nothing.
+-- Laws of `sqrtOf` on the values themselves, which `RootTheorems.antt` puts together. Assumes nothing.
 use mathlib.Core.Path.{_≡_, refl, sym, ap, _∙_, subst}
 use mathlib.Core.Logic.{inl, inr}
 use Prim.Native.Nat.{ℕ, zero, suc, _+_, _-_, _*_, _/_, _%_, _^_, _≤_, _<_}

@@ -1,8 +1,9 @@
 pub mod Single
 pub mod Root
-pub mod Near
+pub mod Parts
 pub mod Laws
 pub mod Floats
+pub mod Claims
 pub mod RootTheorems
 pub mod Order
 pub mod Zero

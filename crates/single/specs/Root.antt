@@ -1,5 +1,5 @@
 -- Section 2: the root of a single is the single nearest its exact square root. Definitions only;
--- `RootTheorems.antt` says what is proved of them.
+-- `Claims.antt` says what is proved of them.
 use Prim.Native.Nat.{ℕ, zero, suc, _+_, _-_, _*_, _/_, _%_, _^_}
 use mathlib.Core.Bool.{Bool, true, false, cond}
 use lib.Dec.{leb, ltb}

@@ -3,11 +3,9 @@ ghost use mathlib.Core.Path.{_≡_};
 ghost use Prim.Native.Nat.{_<_};
 ghost use lib.Dec.{T};
 ghost use Rattle.single.specs.Root.{rootBits, sqrtOf, rooted, rootAnswer};
-ghost use Rattle.single.specs.Near.{PartsOf};
+ghost use Rattle.single.specs.Parts.{PartsOf};
 ghost use Rattle.single.specs.Single.{maxOf, minOf, clampOf};
 use picture::refusal;
-
-mod whole;
 
 // What `root` answers: `root` is 0.0 beside a refusal.
 pub struct Rooted {
@@ -54,7 +52,7 @@ fn root_bits(b: u32) -> u32
     let m = x.m;
     let e = x.e;
     // m * 2 ^ (23 + e) is w * 4 ^ (e / 2), with a w of 47 or 48 digits: the root has the digits of w's root, and half the exponent
-    let r = whole::near_root((m as u64) << (23 + e % 2));
+    let r = integer_root::near_root((m as u64) << (23 + e % 2));
     e / 2 * 0x80_0000 + r as u32
 }
 

@@ -8,7 +8,9 @@ use lib.Dec.{ltb}
 use borrow.Author.Tests.{ltb-false, le-ltb}
 use Rattle.clarity.specs.declared.Clarity.{Clarity}
 use Rattle.clarity.specs.Clarity.{lawfulOf}
-use Rattle.sizes.specs.Sizes.{Asked, Lengths, refusalOf, wordsWithin}
+use Rattle.sizes.specs.declared.Asked.{Asked}
+use Rattle.sizes.specs.declared.Lengths.{Lengths}
+use Rattle.sizes.specs.Sizes.{refusalOf, wordsWithin}
 
 below : (a : ℕ) → a < 2 ^ 32 → a ≤ 2 ^ 32 - 1
 below a h = omega arith
@@ -79,6 +81,21 @@ accepted q asked lent e =
     go false false false false true t6 t7 q1 q2 q3 q4 q5 q6 z = absurd (number 3 z)
     go false false false false false true t7 q1 q2 q3 q4 q5 q6 z = absurd (number 3 z)
     go false false false false false false false q1 q2 q3 q4 q5 q6 z = absurd (number 12 z)
+
+-- and the other way round
+pub taken : (q : Clarity) (asked : Asked) (lent : Lengths) → (ltb (asked .limit) (asked .w) || ltb (asked .limit) (asked .h)) ≡ false
+    → asked .picture ≤ lent .picture → asked .output ≤ lent .output → asked .middle ≤ lent .middle → asked .scratch ≤ lent .singles
+    → asked .scratch ≤ lent .bytes → lawfulOf q ≡ true → refusalOf q asked lent ≡ 0
+taken q asked lent e p o m s b l =
+    rw (
+      e,
+      le-ltb (lent .picture) (asked .picture) p,
+      le-ltb (lent .output) (asked .output) o,
+      le-ltb (lent .middle) (asked .middle) m,
+      le-ltb (lent .singles) (asked .scratch) s,
+      le-ltb (lent .bytes) (asked .scratch) b,
+      l,
+    )
 
 -- past the limit no length is looked at, so the number is that of the true product
 module _ (q : Clarity) (side w h : ℕ) (o m s : ℕ → ℕ) (lent : Lengths) where

@@ -21,25 +21,29 @@ singles n = replicate n f0
 abbrev bad : Clarity
 bad = Threshold f0
 
--- three-times: 1, 2, 3, 4, 13
-pub scale-order : (refusal3 bad 2049 1 (zeros 0) (zeros 8) (singles 7) (zeros 7) ≡ Refusal.side)
-    × (refusal3 bad 1 1 (zeros 0) (zeros 8) (singles 7) (zeros 7) ≡ Refusal.picture)
-    × (refusal3 bad 1 1 (zeros 1) (zeros 8) (singles 7) (zeros 7) ≡ Refusal.output)
-    × (refusal3 bad 1 1 (zeros 1) (zeros 9) (singles 7) (zeros 8) ≡ Refusal.scratch)
-    × (refusal3 bad 1 1 (zeros 1) (zeros 9) (singles 8) (zeros 7) ≡ Refusal.scratch)
-    × (refusal3 bad 1 1 (zeros 1) (zeros 9) (singles 8) (zeros 8) ≡ Refusal.clarity)
-    × (refusal3 Standard 1 1 (zeros 1) (zeros 9) (singles 8) (zeros 8) ≡ Refusal.none)
-unfolding lt
-scale-order = (refl, refl, refl, refl, refl, refl, refl)
+-- the calls of whole pictures
+pub record WholeOrders : Type 0 where
+  -- three-times: 1, 2, 3, 4, 13
+  pub scale-order : (refusal3 bad 2049 1 (zeros 0) (zeros 8) (singles 7) (zeros 7) ≡ Refusal.side)
+      × (refusal3 bad 1 1 (zeros 0) (zeros 8) (singles 7) (zeros 7) ≡ Refusal.picture)
+      × (refusal3 bad 1 1 (zeros 1) (zeros 8) (singles 7) (zeros 7) ≡ Refusal.output)
+      × (refusal3 bad 1 1 (zeros 1) (zeros 9) (singles 7) (zeros 8) ≡ Refusal.scratch)
+      × (refusal3 bad 1 1 (zeros 1) (zeros 9) (singles 8) (zeros 7) ≡ Refusal.scratch)
+      × (refusal3 bad 1 1 (zeros 1) (zeros 9) (singles 8) (zeros 8) ≡ Refusal.clarity)
+      × (refusal3 Standard 1 1 (zeros 1) (zeros 9) (singles 8) (zeros 8) ≡ Refusal.none)
+  -- nine-times: 1, 2, 3, 4, 13
+  pub scale9x-order : (refusal9 bad 683 1 (zeros 0) (zeros 80) (zeros 8) (singles 71) (zeros 71) ≡ Refusal.side)
+      × (refusal9 bad 1 1 (zeros 0) (zeros 80) (zeros 8) (singles 71) (zeros 71) ≡ Refusal.picture)
+      × (refusal9 bad 1 1 (zeros 1) (zeros 80) (zeros 8) (singles 71) (zeros 71) ≡ Refusal.output)
+      × (refusal9 bad 1 1 (zeros 1) (zeros 81) (zeros 8) (singles 72) (zeros 72) ≡ Refusal.scratch)
+      × (refusal9 bad 1 1 (zeros 1) (zeros 81) (zeros 9) (singles 71) (zeros 72) ≡ Refusal.scratch)
+      × (refusal9 bad 1 1 (zeros 1) (zeros 81) (zeros 9) (singles 72) (zeros 71) ≡ Refusal.scratch)
+      × (refusal9 bad 1 1 (zeros 1) (zeros 81) (zeros 9) (singles 72) (zeros 72) ≡ Refusal.clarity)
+      × (refusal9 Standard 1 1 (zeros 1) (zeros 81) (zeros 9) (singles 72) (zeros 72) ≡ Refusal.none)
 
--- nine-times: 1, 2, 3, 4, 13
-pub scale9x-order : (refusal9 bad 683 1 (zeros 0) (zeros 80) (zeros 8) (singles 71) (zeros 71) ≡ Refusal.side)
-    × (refusal9 bad 1 1 (zeros 0) (zeros 80) (zeros 8) (singles 71) (zeros 71) ≡ Refusal.picture)
-    × (refusal9 bad 1 1 (zeros 1) (zeros 80) (zeros 8) (singles 71) (zeros 71) ≡ Refusal.output)
-    × (refusal9 bad 1 1 (zeros 1) (zeros 81) (zeros 8) (singles 72) (zeros 72) ≡ Refusal.scratch)
-    × (refusal9 bad 1 1 (zeros 1) (zeros 81) (zeros 9) (singles 71) (zeros 72) ≡ Refusal.scratch)
-    × (refusal9 bad 1 1 (zeros 1) (zeros 81) (zeros 9) (singles 72) (zeros 71) ≡ Refusal.scratch)
-    × (refusal9 bad 1 1 (zeros 1) (zeros 81) (zeros 9) (singles 72) (zeros 72) ≡ Refusal.clarity)
-    × (refusal9 Standard 1 1 (zeros 1) (zeros 81) (zeros 9) (singles 72) (zeros 72) ≡ Refusal.none)
+pub whole-orders : WholeOrders
 unfolding lt
-scale9x-order = (refl, refl, refl, refl, refl, refl, refl, refl)
+whole-orders = record {
+  scale-order = (refl, refl, refl, refl, refl, refl, refl);
+  scale9x-order = (refl, refl, refl, refl, refl, refl, refl, refl);
+}

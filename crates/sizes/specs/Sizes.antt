@@ -8,25 +8,8 @@ use lib.ListN.{length}
 use Rattle.picture.specs.Refusal as Refusal
 use Rattle.clarity.specs.declared.Clarity.{Clarity}
 use Rattle.clarity.specs.Clarity.{lawfulOf}
-
--- what a call asks for: sides within a limit, and so many words of the picture, the output and the middle, and elements of both singles
--- and bytes
-pub record Asked : Type 0 where
-  pub limit : ℕ
-  pub w : ℕ
-  pub h : ℕ
-  pub picture : ℕ
-  pub output : ℕ
-  pub middle : ℕ
-  pub scratch : ℕ
-
--- the lengths of the buffers that it is lent
-pub record Lengths : Type 0 where
-  pub picture : ℕ
-  pub output : ℕ
-  pub middle : ℕ
-  pub singles : ℕ
-  pub bytes : ℕ
+use Rattle.sizes.specs.declared.Asked.{Asked}
+use Rattle.sizes.specs.declared.Lengths.{Lengths}
 
 -- the number of the refusal, the first condition that holds
 abbrev pub refusalOf : Clarity → Asked → Lengths → ℕ

@@ -6,37 +6,42 @@ ghost use mathlib.Core.Path.{_≡_};
 ghost use Prim.Native.Nat.{_≤_};
 ghost use Rattle.sizes.specs.Sizes.{refusalOf, wordsWithin};
 
-// The number that turns a call away, or 0: side is the limit, n, o, m and s the elements that picture, output, middle and both of
-// singles and bytes have to have. What is lent is looked at before the setting.
-pub fn refusal(
-    clarity: Clarity,
-    side: u32,
-    w: u32,
-    h: u32,
-    n: usize,
-    o: usize,
-    m: usize,
-    s: usize,
-    picture: usize,
-    output: usize,
-    middle: usize,
-    singles: usize,
-    bytes: usize,
-) -> u32
-    ensures { λ r. ⌜ r ≡ refusalOf clarity
-        (record { limit = side; w = w; h = h; picture = n; output = o; middle = m; scratch = s })
-        (record { picture = picture; output = output; middle = middle; singles = singles; bytes = bytes }) ⌝ }
+// What a call asks for: sides within a limit, and so many words of the picture, the output and the middle, and elements of both singles
+// and bytes.
+pub struct Asked {
+    pub limit: u32,
+    pub w: u32,
+    pub h: u32,
+    pub picture: usize,
+    pub output: usize,
+    pub middle: usize,
+    pub scratch: usize,
+}
+
+// The lengths of the buffers that it is lent.
+pub struct Lengths {
+    pub picture: usize,
+    pub output: usize,
+    pub middle: usize,
+    pub singles: usize,
+    pub bytes: usize,
+}
+
+// The number that turns a call away, or 0. What is lent is looked at before the setting.
+pub fn refusal(clarity: Clarity, asked: Asked, lent: Lengths) -> u32
+    ensures { λ r. ⌜ r ≡ refusalOf clarity asked lent ⌝ }
 {
-    if (side < w) | (side < h) {
+    if (asked.limit < asked.w) | (asked.limit < asked.h) {
         return picture::refusal::SIDE;
     }
-    if picture < n {
+    if lent.picture < asked.picture {
         return picture::refusal::PICTURE;
     }
-    if output < o {
+    if lent.output < asked.output {
         return picture::refusal::OUTPUT;
     }
-    if (middle < m) | (singles < s) | (bytes < s) {
+    let scratch = asked.scratch;
+    if (lent.middle < asked.middle) | (lent.singles < scratch) | (lent.bytes < scratch) {
         return picture::refusal::SCRATCH;
     }
     if !lawful(clarity) {

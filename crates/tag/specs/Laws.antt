@@ -1,5 +1,5 @@
--- Laws of section 5's tags: their range, that a number gives its two tags back, where all tags are 0, how far an offset reaches, and the
--- tag at corner 0 that the table asks for. Assumes nothing.
+-- Laws of section 5's tags: their range, that a number gives its two tags back, how far an offset reaches, and the tag at corner 0 that the
+-- table asks for. Assumes nothing.
 use mathlib.Core.Path.{_≡_}
 use mathlib.Core.Bool.{Bool, true, false}
 use Prim.Native.Nat.{ℕ, zero, suc, _/_, _%_, _≤_}
@@ -8,7 +8,8 @@ use lib.Dec.{T, leb, lit≤}
 use Rattle.picture.specs.Local.{reaches}
 use Rattle.junction.specs.declared.Junctions.{Junctions}
 use Rattle.tag.specs.declared.Tags.{Tags}
-use Rattle.tag.specs.Tag.{if_then_else_, active, JunctionFlags, tagNumber, cornerTag, midTag, traceFlags, traceEdges, offsetOf}
+use Rattle.tag.specs.Tag.{if_then_else_, JunctionFlags, tagNumber, cornerTag, midTag, traceFlags, traceEdges, offsetOf}
+use Rattle.tag.specs.Claims.{Packed}
 
 -- ---- the range
 either : (t : Bool) (a b : ℕ) → a ≤ 8 → b ≤ 8 → (if t then a else b) ≤ 8
@@ -19,12 +20,6 @@ either false a b h k = k
 -- a branch with a tag, and the branches after it
 or-else : (t : Bool) (a b : ℕ) → T (leb a 8) → b ≤ 8 → (if t then a else b) ≤ 8
 or-else t a b h k = either t a b (lit≤ h) k
-
--- a tag number gives back its corner tag and its mid-edge tag
-pub record Packed (t c m : ℕ) : Type 0 where
-  pub corner : t % 9 ≡ c
-  pub mid : t / 9 % 9 ≡ m
-  pub range : t ≤ 80
 
 pub packed : (c m : ℕ) → c ≤ 8 → m ≤ 8 → Packed (tagNumber c m) c m
 packed c m h k = record { corner = omega arith; mid = omega arith; range = omega arith }
@@ -76,21 +71,9 @@ module _ (e dl dl2 dl3 dr dr2 dr3 du du2 du3 dd dd2 dd3 : JunctionFlags) where
     packed (c 3) (m 3) (corner-le 3) (mid-le 3),
   )
 
--- ---- no corner is active
-pub record Idle (j : Junctions) : Type 0 where
-  pub c0 : active (j .n0) ≡ false
-  pub c1 : active (j .n1) ≡ false
-  pub c2 : active (j .n2) ≡ false
-  pub c3 : active (j .n3) ≡ false
-
+-- ---- no tag
 abbrev pub none : Tags
 none = record { t0 = 0; t1 = 0; t2 = 0; t3 = 0 }
-
-pub idle : (e dl dl2 dl3 dr dr2 dr3 du du2 du3 dd dd2 dd3 : Junctions) → Idle e → Idle dl → Idle dr → Idle du → Idle dd
-    → traceEdges e dl dl2 dl3 dr dr2 dr3 du du2 du3 dd dd2 dd3 ≡ none
-unfolding traceEdges traceFlags cornerTag midTag if_then_else_
-idle e dl dl2 dl3 dr dr2 dr3 du du2 du3 dd dd2 dd3 i l r u d =
-    rw (i .c0, i .c1, i .c2, i .c3, l .c0, l .c3, r .c1, r .c2, u .c0, u .c1, d .c2, d .c3)
 
 -- ---- the offsets
 pub offset-reaches : (t : ℕ) → T (reaches 2 2 2 2 (offsetOf t .dx) (offsetOf t .dy))

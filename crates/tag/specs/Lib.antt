@@ -1,4 +1,5 @@
 pub mod Tag
 pub mod Words
+pub mod Claims
 pub mod Laws
 pub mod Unpack

@@ -1,34 +1,15 @@
--- `unpack_corner_tag` and `unpack_mid_tag` of the source recover both tags from the single (c + 9m) / 80. Assumes nothing.
+-- What `Claims.antt` says of tag numbers. Assumes nothing.
 use mathlib.Core.Path.{_≡_, sym, subst}
 use mathlib.Core.Logic.{⊎-elim}
 use mathlib.Core.Bool.{Bool, true, false, _&&_}
-use Prim.Native.Nat.{ℕ, zero, suc, _%_, _≤_, _<_}
+use Prim.Native.Nat.{ℕ, zero, suc, _≤_, _<_}
 use native.Mathlib.Nat.{eq-or-lt-of-le}
 use native.Mathlib.Omega.{arith}
 use lib.Dec.{T, eqb, eqb→eq}
-use lib.IntN.{pos, negsuc}
-use lib.Ieee.{Float, fin, binary32, add, mul, div, toUnsigned}
+use lib.Ieee.{add, mul, div, toUnsigned}
 use lib.Ieee.Fits.{and-l, and-r}
-
--- n as a single
-abbrev whole : ℕ → Float
-whole n = fin false n (pos 0)
-
-abbrev half : Float
-half = fin false 1 (negsuc 0)
-
--- (ct + 9.0 * mt) / 80.0
-unfoldable pub packedTag : ℕ → ℕ → Float
-packedTag c m = div binary32 (add binary32 (whole c) (mul binary32 (whole 9) (whole m))) (whole 80)
-
--- (v * 80.0 + 0.5).floor() as i32 % 9
-unfoldable pub unpackCornerTag : Float → ℕ
-unpackCornerTag v = toUnsigned 31 (add binary32 (mul binary32 v (whole 80)) half) % 9
-
--- (v * 80.0 / 9.0 + 0.5 / 9.0).floor() as i32 % 9
-unfoldable pub unpackMidTag : Float → ℕ
-unpackMidTag v =
-    toUnsigned 31 (add binary32 (div binary32 (mul binary32 v (whole 80)) (whole 9)) (div binary32 half (whole 9))) % 9
+use Rattle.tag.specs.Claims.{packedTag, unpackCornerTag, unpackMidTag, TagLaws}
+use Rattle.tag.specs.Laws.{traced}
 
 -- a test of each number below n
 every : (ℕ → Bool) → ℕ → Bool
@@ -59,3 +40,6 @@ unpacked c m h k =
       eqb→eq (unpackCornerTag (packedTag c m)) c (and-l (eqb (unpackCornerTag (packedTag c m)) c) (eqb (unpackMidTag (packedTag c m)) m) t),
       eqb→eq (unpackMidTag (packedTag c m)) m (and-r (eqb (unpackCornerTag (packedTag c m)) c) (eqb (unpackMidTag (packedTag c m)) m) t),
     )
+
+pub tag-laws : TagLaws
+tag-laws = record { traced = traced; unpacked = unpacked }

@@ -18,8 +18,8 @@ use Rattle.picture.specs.Picture.{words}
 use Rattle.picture.specs.Refusal.{none, side, picture, trailer, long}
 use Rattle.clarity.specs.declared.Clarity.the-variants.{Standard}
 use Rattle.whole.specs.Calls.{Scales}
-use Rattle.whole.specs.Laws.{scale-length}
-use Rattle.whole.specs.Whole.{scaleOf}
+use Rattle.enlarged.specs.Laws.{scale-length}
+use Rattle.enlarged.specs.Whole.{scaleOf}
 use Rattle.text.specs.Text.{places, spaced, line, row, rows, sidesText, pictureText, enlargedText, refusedText, programRefusal, textOf, Prints}
 use Rattle.text.specs.Writes.{Writes}
 use Rattle.text.proofs.Texts.{length-decimal, length-spaced, length-line, length-sides, length-refused}

@@ -10,7 +10,7 @@ use Rattle.picture.specs.Fill.{put, flat}
 use Rattle.picture.specs.Picture.{words}
 use Rattle.picture.specs.Refusal.{none, side, trailer, long}
 use Rattle.clarity.specs.declared.Clarity.the-variants.{Standard}
-use Rattle.whole.specs.Whole.{scaleOf}
+use Rattle.enlarged.specs.Whole.{scaleOf}
 
 -- a digit's character: 0 to 9, then a to f
 abbrev pub digit : ℕ → ℕ

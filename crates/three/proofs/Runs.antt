@@ -9,9 +9,9 @@ use Rattle.picture.specs.Picture.{words}
 use Rattle.clarity.specs.declared.Clarity.{Clarity}
 use Rattle.block.specs.Block.{blockOf}
 use Rattle.block.specs.Locality.{block-length}
-use Rattle.stored.specs.Store as store
-use Rattle.stored.specs.Store.{putRow}
-use Rattle.stored.specs.StoreLaws.{row-same}
+use Rattle.block.specs.Drawn as store
+use Rattle.block.specs.Store.{putRow}
+use Rattle.block.specs.StoreLaws.{row-same}
 use Rattle.machine.specs.Screen.{place}
 use Rattle.machine.specs.Machine.{putWords, putBlock, putAll}
 use Rattle.machine.proofs.Lists.{table-snoc}

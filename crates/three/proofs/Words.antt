@@ -6,8 +6,8 @@ use native.Mathlib.Nat.{add-mul}
 use native.Mathlib.Omega.{arith}
 use lib.ListN.{length, getD, set}
 use Rattle.picture.specs.Fill.{put, length-put, stored3}
-use Rattle.stored.specs.Store.{third}
-use Rattle.stored.specs.Store as store
+use Rattle.block.specs.Drawn.{third}
+use Rattle.block.specs.Drawn as store
 use Rattle.machine.specs.Lists.{table}
 use Rattle.machine.specs.Screen.{place}
 use Rattle.machine.specs.Machine.{putWords}

@@ -1,7 +1,2 @@
-pub mod Loops
-pub mod Swept
-pub mod Parts
-pub mod Sizes
-mod Runs
 mod Tagged
 mod Ring

@@ -10,14 +10,19 @@ use Rattle.picture.specs.Picture.{words}
 use Rattle.clarity.specs.declared.Clarity.{Clarity}
 use Rattle.grid.specs.declared.Grid.{Grid}
 use Rattle.block.specs.Block.{blockOf}
-use Rattle.block.specs.Window.{Tile, ringOf}
-use Rattle.stored.specs.Store.{putRect}
-use Rattle.stored.specs.StoreLaws.{rect-long}
+use Rattle.block.specs.Ring.{ringOf}
+use Rattle.passes.specs.Window.{Tile}
+use Rattle.block.specs.Store.{putRect}
+use Rattle.block.specs.StoreLaws.{rect-long}
 use Rattle.nine.specs.Nine.{enlarged}
 use Rattle.nine.proofs.Second.{tile-second, window-words}
-use Rattle.tiles.specs.Tiles.{TileOn, columnsOf, rowsOf, windowWords}
+use Rattle.stale_runs.specs.Tiles.{TileOn, columnsOf, rowsOf}
 
--- a tile of either screen is one that `block` takes
+-- how many words the window of a tile of the nine-times screen has
+abbrev windowWords : ℕ
+windowWords = 648
+
+-- a tile of either screen is one that `passes` takes
 pub tile-of : {scale w h : ℕ} {t : Grid} → TileOn scale w h t → columnsOf scale ≤ 16 → rowsOf scale ≤ 12 → w ≤ 2048 → h ≤ 2048
     → Tile w h (t .x0) (t .y0) (t .cols) (t .rows)
 tile-of k c r wide high = record {

@@ -11,11 +11,11 @@ use Rattle.clarity.specs.declared.Clarity.{Clarity}
 use Rattle.grid.specs.declared.Grid.{Grid}
 use Rattle.grid.specs.Grid.{tagsAt}
 use Rattle.block.specs.Block.{pictureTags, blockFrom, blockOf}
-use Rattle.block.specs.Window.{Tile, TileTagged, tileJunctions, tileBytes}
-use Rattle.stored.specs.Store.{putRect, RectRoom}
-use Rattle.stored.specs.StoreLaws.{rect-same}
-use Rattle.tiles.specs.declared.Source.{Source}
-use Rattle.tiles.specs.Tiles.{Ready}
+use Rattle.passes.specs.Window.{Tile, TileTagged, tileJunctions, tileBytes}
+use Rattle.block.specs.Store.{putRect, RectRoom}
+use Rattle.block.specs.StoreLaws.{rect-same}
+use Rattle.stale_runs.specs.declared.Source.{Source}
+use Rattle.stale_runs.specs.Tiles.{Ready}
 
 module _ (q : Clarity) (w h x y k r : ℕ) (p b b′ : List ℕ) (tagged : TileTagged q w h (words w p) x y k r b b′) (tile : Tile w h x y k r)
     (full : length b ≡ tileBytes) where

@@ -1,24 +1,20 @@
--- What section 3 says of weights, at every lawful setting of clarity and for all pictures. Assumes nothing.
+-- What `specs/Claims.antt` says of weights. Assumes nothing.
 use mathlib.Core.Path.{_≡_, refl}
 use mathlib.Core.Bool.{true, false}
 use Prim.Native.Nat.{ℕ}
 use lib.Dec.{T}
-use lib.Ieee.{Float, binary32, le, fits}
+use lib.Ieee.{Float, le, fits}
 use Rattle.single.specs.Single.{f0, f½}
 use Rattle.clarity.specs.declared.Clarity.{Clarity}
 use Rattle.clarity.specs.declared.Clarity.the-variants.{Standard, Threshold, Gated}
 use Rattle.metric.specs.declared.Metric.{Metric}
-use Rattle.metric.specs.declared.Weights.{Weights}
 use Rattle.metric.specs.Metric.{metrics}
 use Rattle.weight.specs.Weight.{gateOpen, cornerWeightOf, weightsOf, weights}
-use Rattle.clarity.specs.Clarity.{thresholdOf, lawfulOf}
-use Rattle.metric.proofs.Laws.{UnitSingle, UnitMetric, made, in01, metrics-unit}
+use Rattle.weight.specs.Claims.{LawfulClarity, UnitWeights, WeightLaws}
+use Rattle.clarity.specs.Clarity.{thresholdOf}
+use Rattle.metric.specs.Claims.{UnitSingle, UnitMetric}
+use Rattle.metric.proofs.Laws.{made, in01, metrics-unit}
 use Rattle.weight.proofs.Corner as Corner
-
--- ---- a lawful setting: T is above 0, at most 1, and a single
-pub record LawfulClarity (q : Clarity) : Type 0 where
-  pub held : T (fits binary32 (thresholdOf q))
-  pub is : T (lawfulOf q)
 
 pub standard-lawful : LawfulClarity Standard
 unfolding fits
@@ -59,12 +55,6 @@ module _ (t e p0 p1 s0 s1 : Float) where
   gate-open h = rw h
 
 -- ---- a pixel's weights, and all weights of a picture
-pub record UnitWeights (q : Weights) : Type 0 where
-  pub w0 : UnitSingle (q .w0)
-  pub w1 : UnitSingle (q .w1)
-  pub w2 : UnitSingle (q .w2)
-  pub w3 : UnitSingle (q .w3)
-
 module _ {q : Clarity} (u : LawfulClarity q) (tl t l c r bl b br : Metric) (ul : UnitMetric l) (uc : UnitMetric c) (ur : UnitMetric r) (ub : UnitMetric b) where
   pub weights-of-unit : UnitWeights (weightsOf q tl t l c r bl b br)
   unfolding weightsOf
@@ -78,3 +68,15 @@ module _ {q : Clarity} (u : LawfulClarity q) (tl t l c r bl b br : Metric) (ul :
 pub weights-unit : {q : Clarity} → LawfulClarity q → (w h : ℕ) (f : ℕ → ℕ → ℕ) (x y : ℕ) → UnitWeights (weights q w h (metrics w h f) x y)
 unfolding weights
 weights-unit u w h f x y = weights-of-unit u _ _ _ _ _ _ _ _ (metrics-unit w h f _ _) (metrics-unit w h f _ _) (metrics-unit w h f _ _) (metrics-unit w h f _ _)
+
+pub weight-laws : WeightLaws
+weight-laws = record {
+  standard-lawful = standard-lawful;
+  corner-weight-unit = corner-weight-unit;
+  corner-weight-far = corner-weight-far;
+  weights-unit = weights-unit;
+  corner-weight-standard = corner-weight-standard;
+  weights-standard = weights-standard;
+  gate-closed = gate-closed;
+  gate-open = gate-open;
+}

@@ -1,2 +1,3 @@
 pub mod Weight
 pub mod Plain
+pub mod Claims

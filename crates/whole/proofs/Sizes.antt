@@ -2,19 +2,13 @@
 use mathlib.Core.Path.{_≡_, refl, sym, _∙_, ap}
 use mathlib.Core.Bool.{Bool, true, false, cond}
 use mathlib.Core.List.{List}
-use Prim.Native.Nat.{ℕ, _-_, _*_}
+use Prim.Native.Nat.{ℕ, _*_}
 use native.Mathlib.Nat.{mul-assoc, mul-left-comm}
 use native.Mathlib.Omega.{arith}
 use lib.Dec.{eqb}
 use borrow.Author.Tests.{eqb-true}
-use lib.ListN.{length, take, drop, length-drop}
-use lib.Seq.{take-all}
 use Rattle.picture.specs.Fill.{put}
 use Rattle.whole.specs.Calls.{filled}
-
--- the rest of a list from the cut on, as a part of a slice has it
-pub whole-rest : {E : Type 0} (cut : ℕ) (l : List E) → take (length l - cut) (drop cut l) ≡ drop cut l
-whole-rest cut l = take-all (length l - cut) (drop cut l) (omega (arith, length-drop cut l))
 
 -- a buffer after a call that was refused, and after one that was not
 pub kept : {E : Type 0} (r : ℕ) (vs l : List E) → (r ≡ 0 → ⊥) → l ≡ filled r vs l

@@ -10,7 +10,7 @@ use Rattle.picture.specs.Fill.{put}
 use Rattle.picture.specs.Refusal as Refusal
 use Rattle.clarity.specs.declared.Clarity.{Clarity}
 use Rattle.sizes.specs.Sizes.{refusal3, refusal9}
-use Rattle.whole.specs.Whole.{scaleOf, singlesOf, bytesOf}
+use Rattle.enlarged.specs.Whole.{scaleOf, singlesOf, bytesOf}
 
 -- a buffer with vs at its front, unless the call was refused
 abbrev pub filled : {E : Type 0} → ℕ → List E → List E → List E

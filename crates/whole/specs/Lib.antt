@@ -1,4 +1,2 @@
-pub mod Whole
 pub mod Calls
-pub mod Laws
-pub mod Passes
+pub mod Claims

@@ -15,9 +15,9 @@ use Rattle.marks.specs.Marks.{staleIn, chosen}
 use Rattle.marks.proofs.Counts.{count-none, count-run-le, none-wanted, none-left, none-stale}
 use Rattle.screens.specs.Screens.{screenOf}
 use Rattle.screens.proofs.Screens.{within}
-use Rattle.tiles.specs.Steps.{Draws}
-use Rattle.tiles.proofs.Sizes.{rows-few}
-use Rattle.tiles.proofs.Loops.{lent-still, first-none, first-few, first-more, draws-output-length, draws-marks-length}
+use Rattle.stale_runs.specs.Steps.{Draws}
+use Rattle.stale_runs.proofs.Sizes.{rows-few}
+use Rattle.stale_runs.proofs.Loops.{lent-still, first-none, first-few, first-more, draws-output-length, draws-marks-length}
 use Rattle.draw.proofs.draw_first.Statement.{statement}
 use Rattle.draw.proofs.draw_first.Tie as tie
 

@@ -52,11 +52,11 @@ use Rattle.paints.proofs.Paint.Laws as T′
 use Rattle.machine.specs.Calls.{PaintLists}
 use Rattle.three.specs.Three.{screen3}
 use Rattle.session3x.specs.declared.Session3x.{Session3x}
-use Rattle.calls.specs.declared.PaintedList.{PaintedList}
+use Rattle.painted.specs.declared.PaintedList.{PaintedList}
 use Rattle.session3x.proofs.Session3x as TS
 use Rattle.session3x.proofs.Session3x.Laws as TS′
-use Rattle.calls.proofs.PaintedList as TL
-use Rattle.calls.proofs.PaintedList.Laws as TL′
+use Rattle.painted.proofs.PaintedList as TL
+use Rattle.painted.proofs.PaintedList.Laws as TL′
 use Rattle.session3x.proofs.Session3x.paint_list as paint-list
 use Rattle.session3x.proofs.Session3x.paint_list.Symbol as paint-list-def
 use Rattle.session3x.proofs.Session3x.paint_list.Symbol.{name as #paint-list}

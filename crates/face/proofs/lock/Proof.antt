@@ -5,7 +5,7 @@ use Rattle.header.specs.declared.Header.{Header}
 use Rattle.machine.specs.Calls.{Locks}
 use Rattle.machine.proofs.Ends.{locks-lawful}
 use Rattle.screens.specs.Screens.{screenOf}
-use Rattle.face.specs.Header.{numbersOf}
+use Rattle.arrays.specs.Header.{numbersOf}
 use Rattle.face.proofs.lock.Statement.{statement}
 use Rattle.face.proofs.lock.Tie as tie
 

@@ -6,7 +6,7 @@ use Rattle.header.specs.declared.Header.{Header}
 use Rattle.machine.specs.Calls.{Opens}
 use Rattle.machine.proofs.Ends.{opens-lawful}
 use Rattle.screens.specs.Screens.{screenOf}
-use Rattle.face.specs.Header.{numbersOf}
+use Rattle.arrays.specs.Header.{numbersOf}
 use Rattle.face.proofs.open.Statement.{statement}
 use Rattle.face.proofs.open.Tie as tie
 

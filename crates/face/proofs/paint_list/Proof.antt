@@ -7,7 +7,7 @@ use Rattle.header.specs.declared.Header.{Header}
 use Rattle.machine.specs.Calls.{PaintListEnd, PaintLists}
 use Rattle.machine.proofs.ListEnds.{list-gathered}
 use Rattle.screens.specs.Screens.{screenOf}
-use Rattle.face.specs.Item.{paintOf}
+use Rattle.arrays.specs.Item.{paintOf}
 use Rattle.face.proofs.paint_list.Statement.{statement}
 use Rattle.face.proofs.paint_list.Tie as tie
 

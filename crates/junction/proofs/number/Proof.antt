@@ -36,7 +36,8 @@ add-result-3 c = search needs
 
 returns : tie.Need-returns
 unfolding numberOf
-returns c = cc
+returns c =
+    rw (c .flag4 .ensures .0, c .before .flag3 .ensures .0, c .before .before .flag2 .ensures .0, c .before .before .before .flag .ensures .0, c .before .before .before .before .junction-condition .ensures, c .before .before .before .before .before .before .before .min2 .ensures, c .before .before .before .before .before .before .before .before .min .ensures)
 
 pub number-spec : {M : Type 1} → statement M
 number-spec =

@@ -7,8 +7,8 @@ use lib.ListN.{length, take}
 use borrow.Author.Needs.{needs}
 use Rattle.picture.specs.Picture.{words}
 use Rattle.clarity.specs.declared.Clarity.the-variants.{Standard}
-use Rattle.whole.specs.Laws.{scale-length}
-use Rattle.whole.specs.Whole.{scaleOf}
+use Rattle.enlarged.specs.Laws.{scale-length}
+use Rattle.enlarged.specs.Whole.{scaleOf}
 use Rattle.text.specs.Text.{pictureText}
 use Rattle.text.proofs.Sizes.{scaled, nine}
 use Rattle.print.proofs.put_enlarged.Statement.{statement}

@@ -8,7 +8,7 @@ use Rattle.picture.specs.Picture.{words}
 use Rattle.picture.specs.Fill.{chunk, add-one-mul}
 use Rattle.grid.specs.Grid.{tagsAt}
 use Rattle.block.specs.Block.{blockFrom}
-use Rattle.stored.specs.StoreLaws.{Rected, rected-none, rected-more, rected-done}
+use Rattle.block.specs.StoreLaws.{Rected, rected-none, rected-more, rected-done}
 use borrow.Author.Needs.{needs}
 use Rattle.stored.proofs.put_rect.Statement.{statement}
 use Rattle.stored.proofs.put_rect.Tie as tie

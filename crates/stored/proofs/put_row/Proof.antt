@@ -9,9 +9,11 @@ use Rattle.picture.specs.Picture.{words}
 use Rattle.picture.specs.Fill.{chunk}
 use Rattle.grid.specs.Grid.{tagsAt}
 use Rattle.block.specs.Block.{blockFrom}
-use Rattle.stored.specs.Store.{putRow, thrice, thriceBelow}
-use Rattle.stored.specs.Strips.{covered}
-use Rattle.stored.proofs.Copies.{thrice-length, copied, below-long, copies-from}
+use Rattle.block.specs.Copies.{thrice, thriceBelow}
+use Rattle.copies.proofs.Runs.{thrice-length, copies-from}
+use Rattle.block.specs.Store.{putRow}
+use Rattle.block.specs.Strips.{covered}
+use Rattle.stored.proofs.Copies.{copied, below-long}
 use borrow.Author.Needs.{needs}
 use Rattle.stored.proofs.put_row.Statement.{statement}
 use Rattle.stored.proofs.put_row.Tie as tie

@@ -8,9 +8,10 @@ use Prim.Native.Nat.{ℕ, _+_, _*_, _-_, _≤_}
 use Rattle.picture.specs.Picture.{words}
 use Rattle.grid.specs.Grid.{tagsAt}
 use Rattle.block.specs.Block.{tagWord, blockFrom}
-use Rattle.stored.specs.Store.{putBlock, Plain}
-use Rattle.stored.specs.StoreLaws.{Rowed, rowed-none, rowed-more, rowed-done}
-use Rattle.stored.proofs.Copies.{stands, plain-drawn}
+use Rattle.block.specs.Drawn.{putBlock, Plain}
+use Rattle.tag_words.proofs.Rows.{plain-drawn}
+use Rattle.block.specs.StoreLaws.{Rowed, rowed-none, rowed-more, rowed-done}
+use Rattle.stored.proofs.Copies.{stands}
 use borrow.Author.Needs.{needs}
 use Rattle.stored.proofs.put_tagged.Statement.{statement}
 use Rattle.stored.proofs.put_tagged.Tie as tie

@@ -11,7 +11,7 @@ use Rattle.machine.specs.Screen.{Screen}
 use Rattle.machine.specs.Lent.{Lent}
 use Rattle.screens.specs.Screens.{screenOf}
 use Rattle.screens.proofs.Screens.{is-nine, not-nine}
-use Rattle.tiles.specs.Tiles.{TileOn}
+use Rattle.stale_runs.specs.Tiles.{TileOn}
 use Rattle.tiles.proofs.draw_tile.Statement.{statement}
 use Rattle.tiles.proofs.draw_tile.Tie as tie
 

@@ -13,15 +13,15 @@ use Rattle.whole.proofs.scale.Tie as tie
 words-of-requires : tie.Need-words-of-requires
 words-of-requires c κs = lit≤ tt
 
-mul-refusal : tie.Need-mul-refusal
-mul-refusal c = omega (
+mul-large : tie.Need-mul-large
+mul-large c = omega (
   arith,
   within-small 2048 (c .before .before .before .before .before .args .w) (c .before .before .before .before .before .args .h) (c .words-of .result) (lit≤ tt)
       (c .words-of .ensures),
 )
 
-mul-refusal-2 : tie.Need-mul-refusal-2
-mul-refusal-2 c = omega (
+mul-scratch : tie.Need-mul-scratch
+mul-scratch c = omega (
   arith,
   within-small 2048 (c .before .before .before .before .before .args .w) (c .before .before .before .before .before .args .h) (c .words-of .result) (lit≤ tt)
       (c .words-of .ensures),
@@ -77,8 +77,8 @@ scale-spec =
     tie.close
     (tie.spec
     words-of-requires
-    mul-refusal
-    mul-refusal-2
+    mul-large
+    mul-scratch
     refusal-requires
     returns
     enlarge-requires

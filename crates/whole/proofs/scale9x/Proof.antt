@@ -9,8 +9,8 @@ use lib.ListN.{length, take}
 use lib.Seq.{length-take-le}
 use Rattle.picture.specs.Picture.{words}
 use Rattle.picture.specs.Fill.{put, put-over, take-front}
-use Rattle.whole.specs.Whole.{scaleOf, singlesOf, bytesOf}
-use Rattle.whole.specs.Laws.{scale-length, singles-length, bytes-length}
+use Rattle.enlarged.specs.Whole.{scaleOf, singlesOf, bytesOf}
+use Rattle.enlarged.specs.Laws.{scale-length, singles-length, bytes-length}
 use Rattle.sizes.specs.Sizes.{asked9, lent9, refusalOf, refusal9}
 use Rattle.sizes.proofs.Sizes.{within-small, within-is, refusal-within, Accepted, accepted}
 use Rattle.whole.proofs.Sizes.{nine-words, kept, written}
@@ -28,15 +28,15 @@ mul-m c = omega (
       (c .words-of .result) (lit≤ tt) (c .words-of .ensures),
 )
 
-mul-refusal : tie.Need-mul-refusal
-mul-refusal c = omega (
+mul-large : tie.Need-mul-large
+mul-large c = omega (
   arith,
   within-small 682 (c .before .before .before .before .before .before .args .w) (c .before .before .before .before .before .before .args .h)
       (c .words-of .result) (lit≤ tt) (c .words-of .ensures),
 )
 
-mul-refusal-2 : tie.Need-mul-refusal-2
-mul-refusal-2 c = omega (
+mul-scratch : tie.Need-mul-scratch
+mul-scratch c = omega (
   arith,
   within-small 682 (c .before .before .before .before .before .before .args .w) (c .before .before .before .before .before .before .args .h)
       (c .words-of .result) (lit≤ tt) (c .words-of .ensures),
@@ -185,8 +185,8 @@ scale9x-spec =
     (tie.spec
     words-of-requires
     mul-m
-    mul-refusal
-    mul-refusal-2
+    mul-large
+    mul-scratch
     refusal-requires
     returns
     enlarge-requires

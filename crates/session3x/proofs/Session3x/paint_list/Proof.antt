@@ -49,19 +49,19 @@ use Rattle.paints.proofs.few as few
 use Rattle.paints.proofs.few.Symbol as few-def
 use Rattle.paints.proofs.few.Symbol.{name as #few}
 use Rattle.paints.proofs.few.Met as few-thm
-use Rattle.paints.proofs.gather as gather
-use Rattle.paints.proofs.gather.Symbol as gather-def
-use Rattle.paints.proofs.gather.Symbol.{name as #gather}
-use Rattle.paints.proofs.gather.Met as gather-thm
+use Rattle.gathered.proofs.gather as gather
+use Rattle.gathered.proofs.gather.Symbol as gather-def
+use Rattle.gathered.proofs.gather.Symbol.{name as #gather}
+use Rattle.gathered.proofs.gather.Met as gather-thm
 use Rattle.machine.specs.Calls.{PaintLists}
 use Rattle.machine.proofs.ListEnds.{list-gathered}
 use Rattle.three.specs.Three.{screen3}
 use Rattle.session3x.specs.declared.Session3x.{Session3x}
-use Rattle.calls.specs.declared.PaintedList.{PaintedList}
+use Rattle.painted.specs.declared.PaintedList.{PaintedList}
 use Rattle.session3x.proofs.Session3x as TS
 use Rattle.session3x.proofs.Session3x.Laws as TS′
-use Rattle.calls.proofs.PaintedList as TL
-use Rattle.calls.proofs.PaintedList.Laws as TL′
+use Rattle.painted.proofs.PaintedList as TL
+use Rattle.painted.proofs.PaintedList.Laws as TL′
 use Rattle.session3x.proofs.Session3x.paint_gathered as stored
 use Rattle.session3x.proofs.Session3x.paint_gathered.Symbol as stored-def
 use Rattle.session3x.proofs.Session3x.paint_gathered.Symbol.{name as #stored}
@@ -341,6 +341,6 @@ paint-list-spec 𝓤 H 𝓜 𝓖 𝓡 =
     (tables 𝓤 H 𝓜 𝓡 code.env .C) (tables 𝓤 H 𝓜 𝓡 code.env .Λ) #paint-list code.function (code.unfolded 𝓤 H 𝓜 𝓡)
     (paint-list-meets 𝓤 H (𝓖 .A) (givenOf 𝓤 H 𝓜 𝓖) (𝓜 .mem) (𝓡 .run) (tablesOf 𝓤 H 𝓜 (tables 𝓤 H 𝓜 𝓡 code.env))
     (cited 𝓤 H (Few 𝓤 H (𝓖 .A) (𝓜 .mem) (𝓡 .run)) 𝓜 𝓡 code.env #few few-def.routine code.calls-paints·few (few-thm.met 𝓤 H 𝓜 𝓖 𝓡))
-    (cited 𝓤 H (Gather 𝓤 H (𝓖 .A) (𝓜 .mem) (𝓡 .run)) 𝓜 𝓡 code.env #gather gather-def.routine code.calls-paints·gather (gather-thm.met 𝓤 H 𝓜 𝓖 𝓡))
+    (cited 𝓤 H (Gather 𝓤 H (𝓖 .A) (𝓜 .mem) (𝓡 .run)) 𝓜 𝓡 code.env #gather gather-def.routine code.calls-gathered·gather (gather-thm.met 𝓤 H 𝓜 𝓖 𝓡))
     (cited 𝓤 H (Stored 𝓤 H (𝓖 .A) (𝓜 .mem) (𝓡 .run)) 𝓜 𝓡 code.env #stored stored-def.routine code.calls-session3x·Session3x·paint-gathered
     (stored-thm.met 𝓤 H 𝓜 𝓖 𝓡)))

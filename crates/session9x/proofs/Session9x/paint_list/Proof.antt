@@ -49,19 +49,19 @@ use Rattle.paints.proofs.few as few
 use Rattle.paints.proofs.few.Symbol as few-def
 use Rattle.paints.proofs.few.Symbol.{name as #few}
 use Rattle.paints.proofs.few.Met as few-thm
-use Rattle.paints.proofs.gather as gather
-use Rattle.paints.proofs.gather.Symbol as gather-def
-use Rattle.paints.proofs.gather.Symbol.{name as #gather}
-use Rattle.paints.proofs.gather.Met as gather-thm
+use Rattle.gathered.proofs.gather as gather
+use Rattle.gathered.proofs.gather.Symbol as gather-def
+use Rattle.gathered.proofs.gather.Symbol.{name as #gather}
+use Rattle.gathered.proofs.gather.Met as gather-thm
 use Rattle.machine.specs.Calls.{PaintLists}
 use Rattle.machine.proofs.ListEnds.{list-gathered}
 use Rattle.nine.specs.Nine.{screen9}
 use Rattle.session9x.specs.declared.Session9x.{Session9x}
-use Rattle.calls.specs.declared.PaintedList.{PaintedList}
+use Rattle.painted.specs.declared.PaintedList.{PaintedList}
 use Rattle.session9x.proofs.Session9x as TS
 use Rattle.session9x.proofs.Session9x.Laws as TS′
-use Rattle.calls.proofs.PaintedList as TL
-use Rattle.calls.proofs.PaintedList.Laws as TL′
+use Rattle.painted.proofs.PaintedList as TL
+use Rattle.painted.proofs.PaintedList.Laws as TL′
 use Rattle.session9x.proofs.Session9x.paint_gathered as stored
 use Rattle.session9x.proofs.Session9x.paint_gathered.Symbol as stored-def
 use Rattle.session9x.proofs.Session9x.paint_gathered.Symbol.{name as #stored}
@@ -341,6 +341,6 @@ paint-list-spec 𝓤 H 𝓜 𝓖 𝓡 =
     (tables 𝓤 H 𝓜 𝓡 code.env .C) (tables 𝓤 H 𝓜 𝓡 code.env .Λ) #paint-list code.function (code.unfolded 𝓤 H 𝓜 𝓡)
     (paint-list-meets 𝓤 H (𝓖 .A) (givenOf 𝓤 H 𝓜 𝓖) (𝓜 .mem) (𝓡 .run) (tablesOf 𝓤 H 𝓜 (tables 𝓤 H 𝓜 𝓡 code.env))
     (cited 𝓤 H (Few 𝓤 H (𝓖 .A) (𝓜 .mem) (𝓡 .run)) 𝓜 𝓡 code.env #few few-def.routine code.calls-paints·few (few-thm.met 𝓤 H 𝓜 𝓖 𝓡))
-    (cited 𝓤 H (Gather 𝓤 H (𝓖 .A) (𝓜 .mem) (𝓡 .run)) 𝓜 𝓡 code.env #gather gather-def.routine code.calls-paints·gather (gather-thm.met 𝓤 H 𝓜 𝓖 𝓡))
+    (cited 𝓤 H (Gather 𝓤 H (𝓖 .A) (𝓜 .mem) (𝓡 .run)) 𝓜 𝓡 code.env #gather gather-def.routine code.calls-gathered·gather (gather-thm.met 𝓤 H 𝓜 𝓖 𝓡))
     (cited 𝓤 H (Stored 𝓤 H (𝓖 .A) (𝓜 .mem) (𝓡 .run)) 𝓜 𝓡 code.env #stored stored-def.routine code.calls-session9x·Session9x·paint-gathered
     (stored-thm.met 𝓤 H 𝓜 𝓖 𝓡)))

@@ -1,0 +1,2 @@
+mod Scaled3
+mod Scaled9

@@ -1,0 +1,5 @@
+pub mod Loops
+pub mod Swept
+pub mod Parts
+pub mod Sizes
+mod Runs

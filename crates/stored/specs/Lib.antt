@@ -1,4 +1,0 @@
-pub mod Store
-pub mod StoreLaws
-pub mod Placed
-pub mod Strips
