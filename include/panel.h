@@ -4,8 +4,8 @@
  * own: all that it reads and writes is lent by the caller, for the time of the call, so calls on different buffers may
  * run at the same time. PANEL_STACK_BYTES below is the stack to keep free.
  *
- * Pictures. A picture is w columns by h rows of 32-bit words, row by row from the top left; wh stands below for
- * w times h. In a word red is bits 16 to 23, green 8 to 15, blue 0 to 7. The top byte is carried from the picture
+ * Pictures. A picture has w columns and h rows of 32-bit words, which stand row after row from the top left; wh stands below
+ * for w times h. A word is 0xTTRRGGBB: red, green and blue as bytes. The top byte TT is carried from the picture
  * to the output and never compared. w or h may be 0.
  *
  * Buffers. Each buffer is a pointer and its length, IN ELEMENTS, not in bytes. A buffer may be longer than the
@@ -31,7 +31,9 @@
  *  13  a clarity above 2, or of 1 or 2 with a threshold that is not above 0, is above 1 or is not a number, given to a
  *      call or standing in a header
  *
- * Where several hold, the first in the order 1, 10, 2, 3, 4, 13, 12, 5, 7, 11 is returned (panel_read_page: 8, 1, 2).
+ * Where several hold, the first in the order 1, 10, 2, 3, 4, 13, 12, 5, 7, 11 is returned (panel_read_page: 8, 1, 2); but
+ * where nothing up to 12 holds of a list of paints, its items are judged one by one, in its order, and the first that is
+ * refused gives its number, be it 5 or 11.
  *
  * Clarity. The corner of a pixel is smoothed by its weight. That is 0 where the edge distance, the one between the two
  * neighbours at this corner, is 0.5 or more. Some panels want less smoothing, so a setting of clarity is chosen for a
