@@ -1,5 +1,6 @@
-// Blocks stored in an output whose rows have `ow` words: of a row of pixels, and of a rectangle of them. Whole pictures and runs of stale blocks are
-// written here, each word where it belongs: a row's pixels are copied first, and then the word that a tag names is stored over its copy.
+// Blocks stored in an output whose rows have `ow` words: of a row of pixels, and of a rectangle of them. Whole pictures and runs of stale
+// blocks are written here, each word where it belongs: a row's pixels are copied first, and then the word that a tag names is stored over
+// its copy.
 use copies::copy_rows;
 use grid::load_tags;
 use tag_words::put_block;

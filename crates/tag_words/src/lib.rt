@@ -1,5 +1,5 @@
-// The block of one pixel stored by its tags in an output whose rows have `ow` words, where nine copies of the pixel stand: the word that a tag names is
-// stored over its copy.
+// The block of one pixel stored by its tags in an output whose rows have `ow` words, where nine copies of the pixel stand: the word that a
+// tag names is stored over its copy.
 use tag::Tags;
 ghost use mathlib.Core.Path.{_≡_};
 ghost use Prim.Native.Nat.{_+_, _*_, _<_, _≤_};
