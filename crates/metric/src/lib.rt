@@ -1,10 +1,14 @@
 // Distances and metrics: `color_distance`, `unpack_norm` and `compute_metrics` of scalefx.rs, and the record of the weights that the next
 // pass makes of them. Each operation is rounded once, in the order in which the source writes it.
+use channels::blue;
+use channels::green;
+use channels::red;
 ghost use mathlib.Core.Path.{_≡_};
 ghost use mathlib.Core.Bool.{cond};
 ghost use Prim.Native.Nat.{_%_, _^_, _≤_};
 ghost use lib.Dec.{eqb};
-ghost use Rattle.metric.specs.Distance.{redOf, greenOf, blueOf, norm, distanceOf};
+ghost use Rattle.channels.specs.Channels.{redOf, greenOf, blueOf};
+ghost use Rattle.metric.specs.Distance.{norm, distanceOf};
 ghost use Rattle.metric.specs.Metric.{metricOf};
 
 // A word's channels, each from 0 to 1.
@@ -27,9 +31,9 @@ fn unpack_norm(c: u32) -> Rgb
     ensures { λ t. ⌜ (t .r ≡ norm (redOf c)) × (t .g ≡ norm (greenOf c)) × (t .b ≡ norm (blueOf c)) ⌝ }
 {
     Rgb {
-        r: norm_of((c >> 16) & 0xFF),
-        g: norm_of((c >> 8) & 0xFF),
-        b: norm_of(c & 0xFF),
+        r: norm_of(red(c)),
+        g: norm_of(green(c)),
+        b: norm_of(blue(c)),
     }
 }
 

@@ -19,7 +19,7 @@ picture = 2
 abbrev pub output : ℕ
 output = 3
 
--- singles, bytes, middle or marks are short
+-- singles, bytes, middle, marks or the replaced picture's buffer are short
 abbrev pub scratch : ℕ
 scratch = 4
 
@@ -59,5 +59,23 @@ items = 12
 abbrev pub clarity : ℕ
 clarity = 13
 
+-- a palette that is empty or has more than 256 entries
+abbrev pub palette : ℕ
+palette = 14
+
+-- a register that is not there or cannot be written, or a command that is not one; no call answers it yet
+abbrev pub register : ℕ
+register = 15
+
+-- a channel's low above its high; no call answers it yet
+abbrev pub range : ℕ
+range = 16
+
+-- pages out of order or repeated; no call answers it yet
+abbrev pub order : ℕ
+order = 17
+
 abbrev pub all : List ℕ
-all = none ∷ side ∷ picture ∷ output ∷ scratch ∷ outside ∷ operand ∷ stale ∷ trailer ∷ long ∷ lock ∷ locked ∷ items ∷ clarity ∷ []
+all =
+    none ∷ side ∷ picture ∷ output ∷ scratch ∷ outside ∷ operand ∷ stale ∷ trailer ∷ long ∷ lock ∷ locked ∷ items ∷ clarity ∷ palette ∷ register
+    ∷ range ∷ order ∷ []

@@ -10,7 +10,7 @@ pub const SIDE: u32 = 1;
 pub const PICTURE: u32 = 2;
 // The output buffer is short.
 pub const OUTPUT: u32 = 3;
-// Singles, bytes, middle or marks are short.
+// Singles, bytes, middle, marks or the replaced picture's buffer are short.
 pub const SCRATCH: u32 = 4;
 // The position lies outside the picture.
 pub const OUTSIDE: u32 = 5;
@@ -30,9 +30,17 @@ pub const LOCKED: u32 = 11;
 pub const ITEMS: u32 = 12;
 // A threshold of clarity that is not above 0, is above 1 or is not a number.
 pub const CLARITY: u32 = 13;
+// A palette that is empty or has more than 256 entries.
+pub const PALETTE: u32 = 14;
+// A register that is not there or cannot be written, or a command that is not one; no call answers it yet.
+pub const REGISTER: u32 = 15;
+// A channel's low above its high; no call answers it yet.
+pub const RANGE: u32 = 16;
+// Pages out of order or repeated; no call answers it yet.
+pub const ORDER: u32 = 17;
 
 // The names here and in the definitions are the same numbers.
-pub fn numbers() -> [u32; 14]
+pub fn numbers() -> [u32; 18]
     ensures { λ r. ⌜ r ≡ all ⌝ }
 {
     [
@@ -50,5 +58,9 @@ pub fn numbers() -> [u32; 14]
         LOCKED,
         ITEMS,
         CLARITY,
+        PALETTE,
+        REGISTER,
+        RANGE,
+        ORDER,
     ]
 }

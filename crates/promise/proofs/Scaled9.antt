@@ -90,7 +90,7 @@ can-scale q w h p e room l =
         singles′ = put 0 (singlesOf q (3 * w) (3 * h) first) singles;
         bytes′ = put 0 (bytesOf q (3 * w) (3 * h) first) bytes;
         scales = record {
-          refusal-now = sym (taken q (asked9 w h (w * h)) (lent9 p output middle singles bytes) e room
+          refusal-now = sym (taken q (asked9 w h (w * h) 0) (lent9 0 p output middle singles bytes) e room (omega arith)
               (omega (arith, length-replicate {A = ℕ} (81 * (w * h)) 0)) (omega (arith, length-replicate {A = ℕ} (9 * (w * h)) 0))
               (omega (arith, length-replicate (72 * (w * h)) f0)) (omega (arith, length-replicate {A = ℕ} (72 * (w * h)) 0)) l);
           middle-now = refl;

@@ -1,5 +1,6 @@
 -- What is promised, in one place: a clause for each theorem. A clause names a claim, which is stated in the file that it is taken from, beside
 -- its definitions; what a single call does is that call's own contract and has no clause. Definitions only.
+use Rattle.colour.specs.Claims.{NearnessLaws}
 use Rattle.single.specs.Claims.{RootLaws}
 use Rattle.clarity.specs.Claims.{Settings}
 use Rattle.metric.specs.Claims.{DistanceLaws}
@@ -9,6 +10,8 @@ use Rattle.tag.specs.Claims.{TagLaws}
 use Rattle.block.specs.Claims.{BlockLaws, Tabled}
 use Rattle.sizes.specs.Examples.{WholeOrders}
 use Rattle.whole.specs.Claims.{WholeLaws, Enlarges3, Enlarges9}
+use Rattle.whole_palette.specs.Claims.{PaletteLaws}
+use Rattle.whole_palette.specs.Examples.{PaletteOrders}
 use Rattle.header.specs.Claims.{LockLaws}
 use Rattle.machine.specs.Demand3.{Demand3}
 use Rattle.machine.specs.Claims.{ItemsAtStart, LockedStays, AsEnlarged, Named}
@@ -58,6 +61,10 @@ pub record Promise : Type 0 where
   -- section 8, whole pictures, and the order of their checks
   pub whole : WholeLaws
   pub whole-orders : WholeOrders
+  -- request 8: how near two colours are, whole pictures with a palette, and the order of their checks
+  pub nearness : NearnessLaws
+  pub palette : PaletteLaws
+  pub palette-orders : PaletteOrders
   -- section 9, a page is all of its file; what is read of some files, and what is printed of some pages
   pub page : WholeFile
   pub files : FileExamples

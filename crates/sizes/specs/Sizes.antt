@@ -17,17 +17,22 @@ refusalOf q asked lent =
     cond (ltb (asked .limit) (asked .w) || ltb (asked .limit) (asked .h)) Refusal.side
     (cond (ltb (lent .picture) (asked .picture)) Refusal.picture
     (cond (ltb (lent .output) (asked .output)) Refusal.output
-    (cond (ltb (lent .middle) (asked .middle) || ltb (lent .singles) (asked .scratch) || ltb (lent .bytes) (asked .scratch)) Refusal.scratch
+    (cond
+    (ltb (lent .middle) (asked .middle) || ltb (lent .replaced) (asked .replaced) || ltb (lent .singles) (asked .scratch)
+    || ltb (lent .bytes) (asked .scratch)) Refusal.scratch
     (cond (lawfulOf q) Refusal.none Refusal.clarity))))
 
 -- three-times of a picture of w by h and n words: the output has nine words for each, and no middle is lent. A word takes eight singles,
--- a metric of four and weights of four, and eight bytes, junctions of four and tags of four
-abbrev pub asked3 : ℕ → ℕ → ℕ → Asked
-asked3 w h n = record { limit = 2048; w = w; h = h; picture = n; output = 9 * n; middle = 0; scratch = 8 * n }
+-- a metric of four and weights of four, and eight bytes, junctions of four and tags of four. The replaced picture takes x words: n with a
+-- palette, and none without
+abbrev pub asked3 : ℕ → ℕ → ℕ → ℕ → Asked
+asked3 w h n x = record { limit = 2048; w = w; h = h; picture = n; replaced = x; output = 9 * n; middle = 0; scratch = 8 * n }
 
-abbrev pub lent3 : List ℕ → List ℕ → List Float → List ℕ → Lengths
-lent3 picture output singles bytes = record {
+-- x is the length of the buffer for the replaced picture, 0 where none is lent
+abbrev pub lent3 : ℕ → List ℕ → List ℕ → List Float → List ℕ → Lengths
+lent3 x picture output singles bytes = record {
   picture = length picture;
+  replaced = x;
   output = length output;
   middle = 0;
   singles = length singles;
@@ -35,16 +40,17 @@ lent3 picture output singles bytes = record {
 }
 
 abbrev pub refusal3 : Clarity → ℕ → ℕ → List ℕ → List ℕ → List Float → List ℕ → ℕ
-refusal3 q w h picture output singles bytes = refusalOf q (asked3 w h (w * h)) (lent3 picture output singles bytes)
+refusal3 q w h picture output singles bytes = refusalOf q (asked3 w h (w * h) 0) (lent3 0 picture output singles bytes)
 
 -- nine-times: the middle is a whole three-times output, whose sides, 3 * 682 at most, are within three-times' limit, and whose own passes
 -- take the singles and bytes
-abbrev pub asked9 : ℕ → ℕ → ℕ → Asked
-asked9 w h n = record { limit = 682; w = w; h = h; picture = n; output = 81 * n; middle = 9 * n; scratch = 72 * n }
+abbrev pub asked9 : ℕ → ℕ → ℕ → ℕ → Asked
+asked9 w h n x = record { limit = 682; w = w; h = h; picture = n; replaced = x; output = 81 * n; middle = 9 * n; scratch = 72 * n }
 
-abbrev pub lent9 : List ℕ → List ℕ → List ℕ → List Float → List ℕ → Lengths
-lent9 picture output middle singles bytes = record {
+abbrev pub lent9 : ℕ → List ℕ → List ℕ → List ℕ → List Float → List ℕ → Lengths
+lent9 x picture output middle singles bytes = record {
   picture = length picture;
+  replaced = x;
   output = length output;
   middle = length middle;
   singles = length singles;
@@ -52,7 +58,7 @@ lent9 picture output middle singles bytes = record {
 }
 
 abbrev pub refusal9 : Clarity → ℕ → ℕ → List ℕ → List ℕ → List ℕ → List Float → List ℕ → ℕ
-refusal9 q w h picture output middle singles bytes = refusalOf q (asked9 w h (w * h)) (lent9 picture output middle singles bytes)
+refusal9 q w h picture output middle singles bytes = refusalOf q (asked9 w h (w * h) 0) (lent9 0 picture output middle singles bytes)
 
 -- the words of a picture within the limit, and 0 past it, where no length is looked at
 abbrev pub wordsWithin : ℕ → ℕ → ℕ → ℕ

@@ -1,2 +1,2 @@
-mod Sizes
+pub mod Sizes
 pub mod Theorem

@@ -25,7 +25,9 @@ by-picture q a l short =
     cond (ltb (a .limit) (a .w) || ltb (a .limit) (a .h)) Refusal.side
     (cond short Refusal.picture
     (cond (ltb (l .output) (a .output)) Refusal.output
-    (cond (ltb (l .middle) (a .middle) || ltb (l .singles) (a .scratch) || ltb (l .bytes) (a .scratch)) Refusal.scratch
+    (cond
+    (ltb (l .middle) (a .middle) || ltb (l .replaced) (a .replaced) || ltb (l .singles) (a .scratch) || ltb (l .bytes) (a .scratch))
+    Refusal.scratch
     (cond (lawfulOf q) Refusal.none Refusal.clarity))))
 
 module _ (q : Clarity) (w h : ℕ) (p : List ℕ) where
@@ -36,7 +38,7 @@ module _ (q : Clarity) (w h : ℕ) (p : List ℕ) where
       → Scales q w h p o s b o′ s′ b′ r → Scales q w h front o s b o′ s′ b′ r
   unfolding by-picture
   scale-front o s b o′ s′ b′ r c = record {
-    refusal-now = c .refusal-now ∙ ap (by-picture q (asked3 w h (w * h)) (lent3 p o s b)) (front-short (w * h) p);
+    refusal-now = c .refusal-now ∙ ap (by-picture q (asked3 w h (w * h) 0) (lent3 0 p o s b)) (front-short (w * h) p);
     output-now = c .output-now ∙ ap (λ (v : List ℕ). filled r v o) (output-same q w h (words w p) (words w front) (front-words w h p));
     singles-now = c .singles-now ∙ ap (λ (v : List Float). filled r v s) (singles-same q w h (words w p) (words w front) (front-words w h p));
     bytes-now = c .bytes-now ∙ ap (λ (v : List ℕ). filled r v b) (bytes-same q w h (words w p) (words w front) (front-words w h p));
@@ -49,7 +51,7 @@ module _ (q : Clarity) (w h : ℕ) (p : List ℕ) where
   scale9x-front o m s b o′ m′ s′ b′ r c =
       let e = output-same q w h (words w p) (words w front) (front-words w h p) in
       record {
-        refusal-now = c .refusal-now ∙ ap (by-picture q (asked9 w h (w * h)) (lent9 p o m s b)) (front-short (w * h) p);
+        refusal-now = c .refusal-now ∙ ap (by-picture q (asked9 w h (w * h) 0) (lent9 0 p o m s b)) (front-short (w * h) p);
         middle-now = c .middle-now ∙ ap (λ (v : List ℕ). filled r v m) e;
         output-now = c .output-now ∙ ap (λ (v : List ℕ). filled r (scaleOf q (3 * w) (3 * h) (words (3 * w) v)) o) e;
         singles-now = c .singles-now ∙ ap (λ (v : List ℕ). filled r (singlesOf q (3 * w) (3 * h) (words (3 * w) v)) s) e;

@@ -2,16 +2,11 @@
 // nothing refuses them is that of `enlarged`.
 use clarity::Clarity;
 use enlarged::enlarge;
-use sizes::Asked;
 use sizes::Lengths;
-use sizes::refusal;
-use sizes::words_of;
+use sizes::area;
+use sizes::refuse3;
+use sizes::refuse9;
 ghost use Rattle.whole.specs.Calls.{Scales, Scales9};
-
-// The largest side of a picture that is enlarged three times, and nine times: 3 * 682 is within 2,048.
-pub const SIDE3: u32 = 2048;
-
-pub const SIDE9: u32 = 682;
 
 // ScaleFX three-times. The answer is 0, or the number of the refusal, which leaves every buffer as it was.
 pub fn scale(
@@ -26,26 +21,15 @@ pub fn scale(
     ensures { λ r. ⌜ Scales clarity w h (now (picture .entry)) (now (output .entry)) (now (singles .entry)) (now (bytes .entry))
         (now (output .exit)) (now (singles .exit)) (now (bytes .exit)) r ⌝ }
 {
-    let n = words_of(SIDE3, w, h);
-    let large = 9 * n;
-    let scratch = 8 * n;
-    let asked = Asked {
-        limit: SIDE3,
-        w,
-        h,
-        picture: n,
-        output: large,
-        middle: 0,
-        scratch,
-    };
     let lent = Lengths {
         picture: picture.len(),
+        replaced: 0,
         output: output.len(),
         middle: 0,
         singles: singles.len(),
         bytes: bytes.len(),
     };
-    let f = refusal(clarity, asked, lent);
+    let f = refuse3(clarity, w, h, 0, lent);
     if f != 0 {
         return f;
     }
@@ -68,30 +52,20 @@ pub fn scale9x(
         (now (bytes .entry))
         (now (output .exit)) (now (middle .exit)) (now (singles .exit)) (now (bytes .exit)) r ⌝ }
 {
-    let n = words_of(SIDE9, w, h);
-    let m = 9 * n;
-    let large = 81 * n;
-    let scratch = 72 * n;
-    let asked = Asked {
-        limit: SIDE9,
-        w,
-        h,
-        picture: n,
-        output: large,
-        middle: m,
-        scratch,
-    };
     let lent = Lengths {
         picture: picture.len(),
+        replaced: 0,
         output: output.len(),
         middle: middle.len(),
         singles: singles.len(),
         bytes: bytes.len(),
     };
-    let f = refusal(clarity, asked, lent);
+    let f = refuse9(clarity, w, h, 0, lent);
     if f != 0 {
         return f;
     }
+    let n = area(w, h);
+    let m = 9 * n;
     enlarge(w, h, clarity, picture, middle, singles, bytes);
     enlarge(3 * w, 3 * h, clarity, &middle[..m], output, singles, bytes);
     f

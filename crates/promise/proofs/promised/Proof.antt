@@ -1,4 +1,5 @@
 -- `promise::promised` meets its contract: every clause of the promise is a theorem. Assumes nothing.
+use Rattle.colour.proofs.Theorem.{nearness-laws}
 use Rattle.single.specs.RootTheorems.{root-laws}
 use Rattle.clarity.proofs.Claims.{settings}
 use Rattle.metric.proofs.Laws.{distance-laws}
@@ -8,6 +9,8 @@ use Rattle.tag.specs.Unpack.{tag-laws}
 use Rattle.block.specs.Theorem.{block-laws, table-holds}
 use Rattle.sizes.specs.Examples.{whole-orders}
 use Rattle.whole.proofs.Theorem.{whole-laws}
+use Rattle.whole_palette.proofs.Theorem.{palette-laws}
+use Rattle.whole_palette.specs.Examples.{palette-orders}
 use Rattle.header.proofs.Laws.{lock-laws}
 use Rattle.machine.specs.Examples.{orders}
 use Rattle.machine.specs.ListExamples.{list-examples}
@@ -54,6 +57,9 @@ returns c = record {
   table = table-holds;
   whole = whole-laws;
   whole-orders = whole-orders;
+  nearness = nearness-laws;
+  palette = palette-laws;
+  palette-orders = palette-orders;
   page = whole-file;
   files = file-examples;
   texts = text-examples;

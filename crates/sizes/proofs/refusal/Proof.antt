@@ -14,16 +14,16 @@ returns-3 : tie.Need-returns-3
 returns-3 c = simp (c .before .before .before .before .before .before .if1 .left, le-ltb _ _ (c .before .before .before .if2 .left), lt-ltb _ _ (c .if3 .taken))
 
 returns-4 : tie.Need-returns-4
-returns-4 c = simp (c .before .before .before .before .before .before .before .before .before .before .before .if1 .left, le-ltb _ _ (c .before .before .before .before .before .before .before .before .if2 .left), le-ltb _ _ (c .before .before .before .before .before .if3 .left), c .if4 .taken)
+returns-4 c = simp (c .before .before .before .before .before .before .before .before .before .before .before .before .before .if1 .left, le-ltb _ _ (c .before .before .before .before .before .before .before .before .before .before .if2 .left), le-ltb _ _ (c .before .before .before .before .before .before .before .if3 .left), c .if4 .taken)
 
 lawful-requires : tie.Need-lawful-requires
 lawful-requires c κs = tt
 
 returns-5 : tie.Need-returns-5
 returns-5 c = simp (
-  c .before .before .before .before .before .before .before .before .before .before .before .before .before .if1 .left,
-  le-ltb _ _ (c .before .before .before .before .before .before .before .before .before .before .if2 .left),
-  le-ltb _ _ (c .before .before .before .before .before .before .before .if3 .left),
+  c .before .before .before .before .before .before .before .before .before .before .before .before .before .before .before .if1 .left,
+  le-ltb _ _ (c .before .before .before .before .before .before .before .before .before .before .before .before .if2 .left),
+  le-ltb _ _ (c .before .before .before .before .before .before .before .before .before .if3 .left),
   c .before .before .if4 .left,
   sym (c .before .lawful .ensures),
   not-true (c .before .lawful .result) (c .if5 .taken),
@@ -31,9 +31,9 @@ returns-5 c = simp (
 
 returns-6 : tie.Need-returns-6
 returns-6 c = simp (
-  c .before .before .before .before .before .before .before .before .before .before .before .before .before .if1 .left,
-  le-ltb _ _ (c .before .before .before .before .before .before .before .before .before .before .if2 .left),
-  le-ltb _ _ (c .before .before .before .before .before .before .before .if3 .left),
+  c .before .before .before .before .before .before .before .before .before .before .before .before .before .before .before .if1 .left,
+  le-ltb _ _ (c .before .before .before .before .before .before .before .before .before .before .before .before .if2 .left),
+  le-ltb _ _ (c .before .before .before .before .before .before .before .before .before .if3 .left),
   c .before .before .if4 .left,
   sym (c .before .lawful .ensures),
   not-false (c .before .lawful .result) (c .if5 .left),

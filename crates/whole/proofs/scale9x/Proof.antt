@@ -4,74 +4,41 @@ use native.Mathlib.Omega.{arith}
 use mathlib.Core.Path.{_≡_, sym, _∙_, ap}
 use mathlib.Core.List.{List}
 use Prim.Native.Nat.{ℕ, _*_}
-use lib.Dec.{lit≤}
 use lib.ListN.{length, take}
 use lib.Seq.{length-take-le}
 use Rattle.picture.specs.Picture.{words}
 use Rattle.picture.specs.Fill.{put, put-over, take-front}
 use Rattle.enlarged.specs.Whole.{scaleOf, singlesOf, bytesOf}
 use Rattle.enlarged.specs.Laws.{scale-length, singles-length, bytes-length}
-use Rattle.sizes.specs.Sizes.{asked9, lent9, refusalOf, refusal9}
-use Rattle.sizes.proofs.Sizes.{within-small, within-is, refusal-within, Accepted, accepted}
+use Rattle.sizes.specs.Sizes.{asked9, lent9}
+use Rattle.sizes.proofs.Sizes.{Accepted, accepted}
 use Rattle.whole.proofs.Sizes.{nine-words, kept, written}
 use borrow.Author.Needs.{needs}
 use Rattle.whole.proofs.scale9x.Statement.{statement}
 use Rattle.whole.proofs.scale9x.Tie as tie
 
-words-of-requires : tie.Need-words-of-requires
-words-of-requires c κs = lit≤ tt
-
-mul-m : tie.Need-mul-m
-mul-m c = omega (
-  arith,
-  within-small 682 (c .before .before .before .before .before .before .args .w) (c .before .before .before .before .before .before .args .h)
-      (c .words-of .result) (lit≤ tt) (c .words-of .ensures),
-)
-
-mul-large : tie.Need-mul-large
-mul-large c = omega (
-  arith,
-  within-small 682 (c .before .before .before .before .before .before .args .w) (c .before .before .before .before .before .before .args .h)
-      (c .words-of .result) (lit≤ tt) (c .words-of .ensures),
-)
-
-mul-scratch : tie.Need-mul-scratch
-mul-scratch c = omega (
-  arith,
-  within-small 682 (c .before .before .before .before .before .before .args .w) (c .before .before .before .before .before .before .args .h)
-      (c .words-of .result) (lit≤ tt) (c .words-of .ensures),
-)
-
-refusal-requires : tie.Need-refusal-requires
-refusal-requires c κs = tt
-
--- the number is that of the definition
-number : (c : tie.After-refusal) → let a = c .before .before .before .before .before .before .before .args in
-    c .refusal .result ≡ refusal9 (a .clarity) (a .w) (a .h) (a .picture .now) (a .output .now) (a .middle .now) (a .singles .now) (a .bytes .now)
-number c =
-    let a = c .before .before .before .before .before .before .before .args in
-    let l = lent9 (a .picture .now) (a .output .now) (a .middle .now) (a .singles .now) (a .bytes .now) in
-    c .refusal .ensures
-    ∙ ap (λ (n : ℕ). refusalOf (a .clarity) (asked9 (a .w) (a .h) n) l) (c .before .words-of .ensures)
-    ∙ refusal-within (a .clarity) 682 (a .w) (a .h) (λ n. 81 * n) (λ n. 9 * n) (λ n. 72 * n) l
+refuse9-requires : tie.Need-refuse9-requires
+refuse9-requires c κs = tt
 
 -- where the number is 0 the sides are within the limit and the buffers long enough
-fits : (c : tie.Else1) → let a = c .before .before .before .before .before .before .before .before .args in
-    Accepted (asked9 (a .w) (a .h) (a .w * a .h)) (lent9 (a .picture .now) (a .output .now) (a .middle .now) (a .singles .now) (a .bytes .now))
-fits c = accepted (c .before .before .before .before .before .before .before .before .args .clarity) _ _ (sym (number (c .before)) ∙ c .if1 .left)
-
--- and the counted words are those of the picture
-counted : (c : tie.Else1) → let a = c .before .before .before .before .before .before .before .before .args in c .before .before .words-of .result ≡ a .w * a .h
-counted c = let a = c .before .before .before .before .before .before .before .before .args in c .before .before .words-of .ensures ∙ within-is 682 (a .w) (a .h) (fits c .wide) (fits c .high)
+fits : (c : tie.Else1) → let a = c .before .before .before .before .before .before .before .args in
+    Accepted (asked9 (a .w) (a .h) (a .w * a .h) 0) (lent9 0 (a .picture .now) (a .output .now) (a .middle .now) (a .singles .now) (a .bytes .now))
+fits c = accepted (c .before .before .before .before .before .before .before .args .clarity) _ _ (sym (c .before .refuse9 .ensures) ∙ c .if1 .left)
 
 returns : tie.Need-returns
 returns c =
     let r = c .if1 .taken in
-    record { refusal-now = number (c .before); middle-now = kept _ _ _ r; output-now = kept _ _ _ r; singles-now = kept _ _ _ r; bytes-now = kept _ _ _ r }
+    record { refusal-now = c .before .refuse9 .ensures; middle-now = kept _ _ _ r; output-now = kept _ _ _ r; singles-now = kept _ _ _ r; bytes-now = kept _ _ _ r }
+
+area-requires : tie.Need-area-requires
+area-requires c κs = tt
+
+mul-m : tie.Need-mul-m
+mul-m c = omega (arith, fits (c .before) .middle-fits, c .area .ensures)
 
 enlarge-requires : tie.Need-enlarge-requires
 enlarge-requires c κs =
-    let k = fits (c .before .before .before) in
+    let k = fits (c .before .before .before .before) in
     record {
       wide = omega (arith, k .wide);
       high = omega (arith, k .high);
@@ -83,17 +50,16 @@ enlarge-requires c κs =
     }
 
 mul-enlarge : tie.Need-mul-enlarge
-mul-enlarge c = omega (arith, fits (c .before .before .before .before .before .before .before .before .before .before) .wide)
+mul-enlarge c = omega (arith, fits (c .before .before .before .before .before .before .before .before .before .before .before) .wide)
 
 mul-enlarge-2 : tie.Need-mul-enlarge-2
-mul-enlarge-2 c = omega (arith, fits (c .before .before .before .before .before .before .before .before .before .before) .high)
+mul-enlarge-2 c = omega (arith, fits (c .before .before .before .before .before .before .before .before .before .before .before) .high)
 
 slice-reshare-prefix-enlarge : tie.Need-slice-reshare-prefix-enlarge
 slice-reshare-prefix-enlarge c = omega (
   arith,
-  fits (c .before .before .before .before .before .before .before .before .before .before) .middle-fits,
-  counted
-      (c .before .before .before .before .before .before .before .before .before .before),
+  fits (c .before .before .before .before .before .before .before .before .before .before .before) .middle-fits,
+  c .before .before .before .before .before .before .before .before .before .before .area .ensures,
   c .before .before .before .before .before .before .enlarge .kept .1 .1 .1 .1 .0,
 )
 
@@ -101,20 +67,19 @@ slice-aggregate-enlarge : tie.Need-slice-aggregate-enlarge
 slice-aggregate-enlarge c = sym
     (length-take-le _ _ (omega (
       arith,
-      fits (c .before .before .before .before .before .before .before .before .before .before .before) .middle-fits,
-      counted
-          (c .before .before .before .before .before .before .before .before .before .before .before),
+      fits (c .before .before .before .before .before .before .before .before .before .before .before .before) .middle-fits,
+      c .before .before .before .before .before .before .before .before .before .before .before .area .ensures,
       c .before .before .before .before .before .before .before .enlarge .kept .1 .1 .1 .1 .0,
     )))
 
 enlarge-requires-2 : tie.Need-enlarge-requires-2
 enlarge-requires-2 c κs =
     let s = c .before .before .before .before .before .before .before .before .before .before .before .before .before .before in
-    let k = fits (s) in
-    let n = counted (s) in
+    let k = fits (s .before) in
+    let n = s .area .ensures in
     let q = nine-words (s .before .before .before .before .before .before .before .before .args .w) (s .before .before .before .before .before .before .before .before .args .h) in
     let m = length-take-le
-    (9 * s .before .before .words-of .result)
+    (9 * s .area .result)
     (c .before .before .before .before .before .before .before .before .before .before .enlarge .last .1 .1 .1 .1 .0)
     (omega (arith, k .middle-fits, c .before .before .before .before .before .before .before .before .before .before .enlarge .kept .1 .1 .1 .1 .0)) in
     record {
@@ -142,9 +107,9 @@ returns-2 : tie.Need-returns-2
 returns-2 c =
     let k₀ = c .before .before .before .before .before .before .before .before .before .before .before .before .before .before .before .before .before in
     let a = k₀ .before .before .before .before .before .before .before .before .before .before .before .before .args in
-    let z = k₀ .before .before .before .before .if1 .left in
-    let k = fits (k₀ .before .before .before .before) in
-    let n = k₀ .before .before .before .before .before .before .words-of .result in
+    let z = k₀ .before .before .before .before .before .if1 .left in
+    let k = fits (k₀ .before .before .before .before .before) in
+    let n = k₀ .before .before .before .before .area .result in
     let e = k₀ .enlarge .ensures in
     let d = c .before .before .before .before .before .before .enlarge2 .ensures in
     let f = words (a .w) (a .picture .now) in
@@ -153,7 +118,7 @@ returns-2 c =
     let u = 3 * a .w in
     let v = 3 * a .h in
     let nine : length m ≡ 9 * n = scale-length (a .clarity) (a .w) (a .h) f ∙ ap (λ (i : ℕ). 9 * i)
-    (sym (counted (k₀ .before .before .before .before))) in
+    (sym (k₀ .before .before .before .before .area .ensures)) in
     let same : take (9 * n)
     (k₀ .enlarge .last .1 .1 .1 .1 .0) ≡ m = ap (take (9 * n)) (e .output-is) ∙ take-front m (a .middle .now) (9 * n) nine in
     let q = nine-words (a .w) (a .h) in
@@ -162,7 +127,7 @@ returns-2 c =
     let t = bytes-length (a .clarity) (a .w) (a .h) f in
     let t′ = bytes-length (a .clarity) u v g in
     record {
-      refusal-now = number (k₀ .before .before .before .before .before);
+      refusal-now = k₀ .before .before .before .before .before .before .refuse9 .ensures;
       middle-now = written _ _ _ _ z (e .output-is);
       output-now = written _ _ _ _ z (d .output-is ∙ ap (λ (l : List ℕ). put 0 (scaleOf (a .clarity) u v (words u l)) (a .output .now)) same);
       singles-now =
@@ -183,12 +148,10 @@ pub scale9x-spec : {M : Type 1} → statement M
 scale9x-spec =
     tie.close
     (tie.spec
-    words-of-requires
-    mul-m
-    mul-large
-    mul-scratch
-    refusal-requires
+    refuse9-requires
     returns
+    area-requires
+    mul-m
     enlarge-requires
     mul-enlarge
     mul-enlarge-2

@@ -1,0 +1,3 @@
+mod Laws
+mod Signed
+pub mod Theorem

@@ -1,0 +1,62 @@
+// The nearest entry of a palette, and a picture's words replaced by it; `specs/Claims.antt` states what is claimed of them.
+use colour::nearness;
+ghost use mathlib.Core.Path.{_≡_};
+ghost use Prim.Native.Nat.{_<_, _≤_};
+ghost use lib.ListN.{length};
+ghost use Rattle.picture.specs.Fill.{put};
+ghost use Rattle.palette.specs.Palette.{nearestOf, replacedOf};
+
+// The entry nearest to the word, top byte and all: no entry has a smaller N, and of equals it is the one at the lowest place. 0 where
+// there is none.
+pub fn nearest(palette: &[u32], word: u32) -> u32
+    ensures { λ r. ⌜ r ≡ nearestOf (now (palette .entry)) word ⌝ }
+{
+    if palette.len() == 0 {
+        return 0;
+    }
+    let mut best = palette[0];
+    let mut least = nearness(best, word);
+    let mut i: usize = 1;
+    while i < palette.len() {
+        let entry = palette[i];
+        let n = nearness(entry, word);
+        if n < least {
+            least = n;
+            best = entry;
+        }
+        i += 1;
+    }
+    best
+}
+
+// How many words' entries are kept along the way: a page has few colours. By this prime the sixteen colours of either common palette, all
+// colours of four levels a channel, and greys four apart have places of their own.
+const KEPT: usize = 251;
+
+// Where a word's entry is kept: any place serves.
+fn slot(word: u32) -> usize
+    ensures { λ r. ⌜ r < 251 ⌝ }
+{
+    (word % 251) as usize
+}
+
+// The picture's first n words, each replaced by the nearest entry, at the front of `replaced`.
+pub fn replace(picture: &[u32], n: usize, palette: &[u32], replaced: &mut [u32])
+    requires { ⌜ (n ≤ length (now picture)) × (n ≤ length (now replaced)) ⌝ }
+    ensures { λ _. ⌜ now (replaced .exit) ≡ put 0 (replacedOf (now (palette .entry)) n (now (picture .entry))) (now (replaced .entry)) ⌝ }
+{
+    let first = nearest(palette, 0);
+    let mut words = [0u32; KEPT];
+    let mut entries = [first; KEPT];
+    let mut i: usize = 0;
+    while i < n {
+        let word = picture[i];
+        let k = slot(word);
+        if words[k] != word {
+            entries[k] = nearest(palette, word);
+            words[k] = word;
+        }
+        replaced[i] = entries[k];
+        i += 1;
+    }
+}

@@ -1,0 +1,4 @@
+mod Refusals
+mod Replaced
+mod Called
+pub mod Theorem

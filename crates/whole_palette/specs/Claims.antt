@@ -1,0 +1,62 @@
+-- Request 8: what holds of every whole-picture call with a palette, three-times and nine-times, each being bound by its contract alone.
+-- Definitions only; `proofs/Theorem.antt` proves it.
+use mathlib.Core.Path.{_≡_}
+use mathlib.Core.Logic.{_⊎_}
+use mathlib.Core.List.{List}
+use Prim.Native.Nat.{ℕ, _*_, _≤_, _<_}
+use lib.Ieee.{Float}
+use lib.ListN.{length, getD, take, drop}
+use Rattle.picture.specs.Refusal as Refusal
+use Rattle.clarity.specs.declared.Clarity.{Clarity}
+use Rattle.sizes.specs.Sizes.{refusal3, refusal9}
+use Rattle.whole.specs.Calls.{Scales, Scales9}
+use Rattle.palette.specs.Claims.{Nearest, NearestLaws}
+use Rattle.whole_palette.specs.Calls.{ScalesBy, ScalesBy9}
+
+-- the picture p of n words, replaced in the lent buffer, x before and x′ after
+pub record Replaces (n : ℕ) (p palette x x′ : List ℕ) : Type 0 where
+  -- each picture word is replaced by the nearest entry, top byte and all
+  pub each : (i : ℕ) → i < n → Nearest palette (getD p i 0) (getD x′ i 0)
+  -- the replaced picture fills n words of the buffer, and those past it stay
+  pub long : length x′ ≡ length x
+  pub past : drop n x′ ≡ drop n x
+
+-- the refusal r, f being that of the same call without a palette
+pub record InTurn (f n : ℕ) (palette x : List ℕ) (r : ℕ) : Type 0 where
+  -- 1, 2, 3 and 4 come first
+  pub first : (f ≡ Refusal.none → ⊥) → (f ≡ Refusal.clarity → ⊥) → r ≡ f
+  -- a buffer of less than n words is refused 4
+  pub short : (f ≡ Refusal.none) ⊎ (f ≡ Refusal.clarity) → length x < n → r ≡ 4
+  -- then 13
+  pub setting : f ≡ Refusal.clarity → n ≤ length x → r ≡ 13
+  -- a palette that is empty or over 256 is refused 14, after 4 and 13
+  pub empty : f ≡ Refusal.none → n ≤ length x → length palette ≡ 0 → r ≡ 14
+  pub over : f ≡ Refusal.none → n ≤ length x → 256 < length palette → r ≡ 14
+  -- and nothing else is refused
+  pub taken : f ≡ Refusal.none → n ≤ length x → 0 < length palette → length palette ≤ 256 → r ≡ 0
+
+-- a three-times call: picture, palette, replaced, output, singles, bytes at entry; the last four at exit; the answer r
+pub record By3 (q : Clarity) (w h : ℕ) (p palette x o : List ℕ) (s : List Float) (b : List ℕ)
+    (x′ o′ : List ℕ) (s′ : List Float) (b′ : List ℕ) (r : ℕ) : Type 0 where
+  pub replaces : r ≡ 0 → Replaces (w * h) p palette x x′
+  -- before enlarging: all that `scale` promises is promised of the replaced picture
+  pub enlarges : r ≡ 0 → Scales q w h (take (w * h) x′) o s b o′ s′ b′ r
+  pub refuses : InTurn (refusal3 q w h p o s b) (w * h) palette x r
+  -- a refused call leaves every buffer as it was
+  pub keeps : (r ≡ 0 → ⊥) → (x′ ≡ x) × (o′ ≡ o) × (s′ ≡ s) × (b′ ≡ b)
+
+-- a nine-times call, with the middle m
+pub record By9 (q : Clarity) (w h : ℕ) (p palette x o m : List ℕ) (s : List Float) (b : List ℕ)
+    (x′ o′ m′ : List ℕ) (s′ : List Float) (b′ : List ℕ) (r : ℕ) : Type 0 where
+  pub replaces : r ≡ 0 → Replaces (w * h) p palette x x′
+  pub enlarges : r ≡ 0 → Scales9 q w h (take (w * h) x′) o m s b o′ m′ s′ b′ r
+  pub refuses : InTurn (refusal9 q w h p o m s b) (w * h) palette x r
+  pub keeps : (r ≡ 0 → ⊥) → (x′ ≡ x) × (o′ ≡ o) × (m′ ≡ m) × (s′ ≡ s) × (b′ ≡ b)
+
+pub record PaletteLaws : Type 0 where
+  -- no other entry has a smaller N, the lowest place wins a tie, and these two fix the entry; the replaced picture is replaced word by word
+  pub entries : NearestLaws
+  pub three : {q : Clarity} {w h : ℕ} {p palette x o : List ℕ} {s : List Float} {b x′ o′ : List ℕ} {s′ : List Float} {b′ : List ℕ} {r : ℕ}
+      → ScalesBy q w h p palette x o s b x′ o′ s′ b′ r → By3 q w h p palette x o s b x′ o′ s′ b′ r
+  pub nine : {q : Clarity} {w h : ℕ} {p palette x o m : List ℕ} {s : List Float} {b x′ o′ m′ : List ℕ} {s′ : List Float} {b′ : List ℕ} {r : ℕ}
+      → ScalesBy9 q w h p palette x o m s b x′ o′ m′ s′ b′ r → By9 q w h p palette x o m s b x′ o′ m′ s′ b′ r
