@@ -7,7 +7,7 @@ major = 0
 
 -- raised where a call is added or answers otherwise, and while major is 0 where a caller's source has to change
 abbrev pub minor : ℕ
-minor = 7
+minor = 8
 
 -- raised where neither is so
 abbrev pub patch : ℕ

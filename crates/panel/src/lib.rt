@@ -2,6 +2,7 @@
 // and its contract is that call's own. include/panel.h says what a caller in C has to know.
 mod numbers;
 mod pages;
+mod palettes;
 mod pictures;
 mod sessions;
 mod sessions9;
