@@ -3,7 +3,7 @@
  * A call is made on a thread whose stack was filled with one byte value before; from the lowest byte on that has
  * another value afterwards, the stack was used. What an empty call uses in the same way is taken off. The pictures are
  * larger than a tile of 16 by 12 blocks and no multiple of it: the page, repeated; noise; one colour. Each is enlarged
- * at every kind of clarity. --figures prints what each call takes at most.
+ * at every kind of clarity; the palette has 256 entries. --figures prints what each call takes at most.
  */
 #define _POSIX_C_SOURCE 200809L
 
@@ -24,6 +24,8 @@ static uint32_t middle[PANEL_MIDDLE9_LEN(W, H)];
 static float singles[PANEL_SINGLES9_LEN(W, H)];
 static uint8_t bytes[PANEL_BYTES9_LEN(W, H)];
 static uint32_t header[PANEL_HEADER_LEN];
+static uint32_t palette[PANEL_PALETTE_LEN];
+static uint32_t replaced[PANEL_REPLACED_LEN(W, H)];
 
 /* The clarity at which the calls are made, with a threshold of 0.3 where it has one. */
 static uint32_t clarity;
@@ -146,6 +148,23 @@ static void call_scale9x(void)
                           PANEL_BYTES9_LEN(W, H)) == PANEL_NONE, "scale9x was refused");
 }
 
+static void call_scale_palette(void)
+{
+    require(panel_scale_palette(W, H, clarity, threshold, picture, PANEL_PICTURE_LEN(W, H), palette, PANEL_PALETTE_LEN,
+                                replaced, PANEL_REPLACED_LEN(W, H), output, PANEL_OUTPUT_LEN(W, H), singles,
+                                PANEL_SINGLES_LEN(W, H), bytes, PANEL_BYTES_LEN(W, H)) == PANEL_NONE,
+            "scale_palette was refused");
+}
+
+static void call_scale9x_palette(void)
+{
+    require(panel_scale9x_palette(W, H, clarity, threshold, picture, PANEL_PICTURE_LEN(W, H), palette,
+                                  PANEL_PALETTE_LEN, replaced, PANEL_REPLACED_LEN(W, H), output9,
+                                  PANEL_OUTPUT9_LEN(W, H), middle, PANEL_MIDDLE9_LEN(W, H), singles,
+                                  PANEL_SINGLES9_LEN(W, H), bytes, PANEL_BYTES9_LEN(W, H)) == PANEL_NONE,
+            "scale9x_palette was refused");
+}
+
 static void call_read_page(void)
 {
     require(panel_read_page(file, file_len, page, FILE_BYTES / 4, &page_w, &page_h) == PANEL_NONE, "no page");
@@ -159,6 +178,8 @@ static void call_root(void)
 }
 
 static void call_distance(void) { require(panel_distance(0x00123456u, 0x00fedcbau) > 0.0f, "no distance"); }
+
+static void call_nearness(void) { require(panel_nearness(0x00123456u, 0x00fedcbau) > 0, "no nearness"); }
 
 static void call_version(void) { require(panel_version() == PANEL_VERSION, "another version"); }
 
@@ -199,8 +220,11 @@ static const struct {
     {"lock, nine times", call_lock, &nine},
     {"scale", call_scale, NULL},
     {"scale9x", call_scale9x, NULL},
+    {"scale_palette", call_scale_palette, NULL},
+    {"scale9x_palette", call_scale9x_palette, NULL},
     {"root", call_root, NULL},
     {"distance", call_distance, NULL},
+    {"nearness", call_nearness, NULL},
     {"version", call_version, NULL},
 };
 
@@ -299,6 +323,8 @@ int main(int argc, char **argv)
     require(posix_memalign(&lent, 4096, STACK) == 0, "no memory");
     stack = lent;
     read_file(argv[1]);
+    for (size_t i = 0; i < PANEL_PALETTE_LEN; i++)
+        palette[i] = word_at(1, i, 0);
     require(taken_by(call_too_deep) > PANEL_STACK_BYTES, "a call that takes more was not seen");
     measure(most);
     for (size_t i = 0; i < CALLS; i++) {

@@ -6,21 +6,21 @@
  *
  * Pictures. A picture has w columns and h rows of 32-bit words, which stand row after row from the top left; wh stands below
  * for w times h. A word is 0xTTRRGGBB: red, green and blue as bytes. The top byte TT is carried from the picture
- * to the output and never compared. w or h may be 0.
+ * to the output and never compared; a call with a palette carries that of the palette's entry instead. w or h may be 0.
  *
  * Buffers. Each buffer is a pointer and its length, IN ELEMENTS, not in bytes. A buffer may be longer than the
  * call needs: elements past the stated number stay untouched. Nothing is asked of the caller but this: each pointer
  * is valid for its stated length, aligned for its type and not null, also where a length is 0; and what a call writes
  * does not overlap anything else that it is lent.
  *
- * Answers. Every call but panel_distance and panel_version returns 0, or the number of a refusal. A refused call
- * changes no buffer, and writes 0 through each pointer to a number that it would have answered. Every condition is
- * checked, and there is no input for which a call does not answer.
+ * Answers. Every call but panel_distance, panel_nearness and panel_version returns 0, or the number of a refusal. A
+ * refused call changes no buffer, and writes 0 through each pointer to a number that it would have answered. Every
+ * condition is checked, and there is no input for which a call does not answer.
  *
  *   1  a side is past its limit
  *   2  the picture buffer is short
  *   3  the output buffer is short
- *   4  the singles, bytes, middle or marks buffer is short
+ *   4  the singles, bytes, middle, marks or replaced buffer is short
  *   5  the position is outside the picture
  *   6  the root's operand has its sign bit set, is infinite or is not a number
  *   7  the block is stale
@@ -30,10 +30,11 @@
  *  12  a list of more than 64 paints
  *  13  a clarity above 2, or of 1 or 2 with a threshold that is not above 0, is above 1 or is not a number, given to a
  *      call or standing in a header
+ *  14  a palette of no entry or of more than 256; answered by the two calls with a palette alone, by none of a session
  *
- * Where several hold, the first in the order 1, 10, 2, 3, 4, 13, 12, 5, 7, 11 is returned (panel_read_page: 8, 1, 2); but
- * where nothing up to 12 holds of a list of paints, its items are judged one by one, in its order, and the first that is
- * refused gives its number, be it 5 or 11.
+ * Where several hold, the first in the order 1, 10, 2, 3, 4, 13, 14, 12, 5, 7, 11 is returned (panel_read_page: 8, 1,
+ * 2); but where nothing up to 12 holds of a list of paints, its items are judged one by one, in its order, and the
+ * first that is refused gives its number, be it 5 or 11.
  *
  * Clarity. The corner of a pixel is smoothed by its weight. That is 0 where the edge distance, the one between the two
  * neighbours at this corner, is 0.5 or more. Some panels want less smoothing, so a setting of clarity is chosen for a
@@ -80,8 +81,8 @@ extern "C" {
 #endif
 
 /* The version of this header: major * 10000 + minor * 100 + patch, and the three with points between. */
-#define PANEL_VERSION 700u
-#define PANEL_VERSION_STRING "0.7.0"
+#define PANEL_VERSION 800u
+#define PANEL_VERSION_STRING "0.8.0"
 
 /*
  * No call takes more bytes of stack than this. It is measured, not proved: examples/stack.c, with what memcpy and memset
@@ -93,7 +94,7 @@ extern "C" {
 #define PANEL_SIDE 1u      /* a side past its limit */
 #define PANEL_PICTURE 2u   /* the picture buffer is short */
 #define PANEL_OUTPUT 3u    /* the output buffer is short */
-#define PANEL_SCRATCH 4u   /* singles, bytes, middle or marks are short */
+#define PANEL_SCRATCH 4u   /* singles, bytes, middle, marks or replaced are short */
 #define PANEL_OUTSIDE 5u   /* the position is outside the picture */
 #define PANEL_OPERAND 6u   /* no root: sign bit set, infinite or not a number */
 #define PANEL_STALE 7u     /* the block is stale */
@@ -102,6 +103,7 @@ extern "C" {
 #define PANEL_LOCKED 11u   /* the position is locked, and the word is another */
 #define PANEL_ITEMS 12u    /* the list has more than 64 paints */
 #define PANEL_CLARITY 13u  /* the clarity is none, or its threshold not above 0 and at most 1 */
+#define PANEL_PALETTE 14u  /* the palette has no entry, or more than 256 */
 
 #define PANEL_STANDARD 0u  /* clarity: 0.5 */
 #define PANEL_THRESHOLD 1u /* clarity: a threshold in the place of 0.5 */
@@ -112,6 +114,7 @@ extern "C" {
 
 /* The lengths of the buffers, in elements, for a picture of w by h. None wraps for sides up to 2 to the 28th. */
 #define PANEL_PICTURE_LEN(w, h) ((size_t)(w) * (size_t)(h))
+#define PANEL_REPLACED_LEN(w, h) PANEL_PICTURE_LEN(w, h)
 #define PANEL_OUTPUT_LEN(w, h) ((size_t)9 * PANEL_PICTURE_LEN(w, h))
 #define PANEL_MARKS_LEN(w, h) PANEL_PICTURE_LEN(w, h)
 #define PANEL_SINGLES_LEN(w, h) ((size_t)8 * PANEL_PICTURE_LEN(w, h))
@@ -135,6 +138,7 @@ extern "C" {
 #define PANEL_BLOCK_WORDS 9u     /* the words of a block */
 #define PANEL_BLOCK9_WORDS 81u   /* the words of a block of a nine-times session */
 #define PANEL_LIST_LEN 64u       /* the most items of a list of paints */
+#define PANEL_PALETTE_LEN 256u   /* the most entries of a palette */
 
 /*
  * The version of the library, to be held to PANEL_VERSION: a program that was compiled with another header's numbers
@@ -154,6 +158,15 @@ uint32_t panel_root(float x, float *root);
  * q does not matter, and neither do their top bytes. Never refused.
  */
 float panel_distance(uint32_t p, uint32_t q);
+
+/*
+ * How near two colours are: a whole number N, the smaller the nearer. A palette's entry is chosen by it. R, G and B
+ * being the channels of p, and R', G' and B' those of q, with ^2 for a square, it is
+ *   N = (1020 + R + R') (R - R')^2 + 2040 (G - G')^2 + (1530 - R - R') (B - B')^2
+ * which is from 0 to 298464750, that of black and white, and 0 exactly where the low 24 bits of p and q agree. The
+ * order of p and q does not matter, and neither do their top bytes. Never refused.
+ */
+uint32_t panel_nearness(uint32_t p, uint32_t q);
 
 /*
  * Enlarges a whole picture three times.
@@ -192,6 +205,61 @@ uint32_t panel_scale9x(uint32_t w, uint32_t h,
                        uint32_t *middle, size_t middle_len,
                        float *singles, size_t singles_len,
                        uint8_t *bytes, size_t bytes_len);
+
+/*
+ * Enlarges a whole picture three times for a panel that shows the colours of a palette alone. Each word of the picture
+ * is replaced by the nearest entry, and the replaced picture is enlarged: output, singles and bytes are those of
+ * panel_scale, given the replaced picture at the same clarity.
+ * The nearest entry is the one with the smallest panel_nearness to the word; of several that have it, the one at the
+ * lowest place. The entry's whole word takes the place of the picture's, whose own top byte goes. So every word of the
+ * output is an entry, top byte and all: with an entry's place in its top byte, that byte drives the panel.
+ *   w, h      at most 2048 each
+ *   clarity   PANEL_STANDARD, PANEL_THRESHOLD or PANEL_GATED, with its threshold
+ *   picture   wh words, read
+ *   palette   palette_len entries, read: 1 to 256 words, each of which counts. Colours may come again
+ *   replaced  wh words, written: the replaced picture
+ *   output    9wh words, written: 3h rows of 3w
+ *   singles   8wh floats, written: as in panel_scale, of the replaced picture
+ *   bytes     8wh bytes, written: as in panel_scale, of the replaced picture
+ * Cost. Words that were seen before are looked up again from a small table, so a page of few colours costs little more
+ * than panel_scale; a picture whose words all differ costs a search of the palette for each word, and so may a page on
+ * which colours that share a place in the table take turns. docs/PERFORMANCE.md of the repository has the figures.
+ * Refusals, in this order: 1 w or h past 2048; 2; 3; 4 replaced, singles or bytes; 13; 14 palette_len of 0 or past 256,
+ * also where w or h is 0. With w or h of 0 nothing is written.
+ */
+uint32_t panel_scale_palette(uint32_t w, uint32_t h,
+                             uint32_t clarity, float threshold,
+                             const uint32_t *picture, size_t picture_len,
+                             const uint32_t *palette, size_t palette_len,
+                             uint32_t *replaced, size_t replaced_len,
+                             uint32_t *output, size_t output_len,
+                             float *singles, size_t singles_len,
+                             uint8_t *bytes, size_t bytes_len);
+
+/*
+ * Enlarges a whole picture nine times for a panel that shows the colours of a palette alone: the words are replaced as
+ * by panel_scale_palette, at the same cost, and the replaced picture is enlarged as by panel_scale9x.
+ *   w, h      at most 682 each
+ *   clarity   PANEL_STANDARD, PANEL_THRESHOLD or PANEL_GATED, with its threshold
+ *   picture   wh words, read
+ *   palette   palette_len entries, read: as in panel_scale_palette
+ *   replaced  wh words, written: the replaced picture
+ *   output    81wh words, written: 9h rows of 9w
+ *   middle    9wh words, written: the replaced picture enlarged three times
+ *   singles   72wh floats, written: as in panel_scale9x, of the replaced picture
+ *   bytes     72wh bytes, written: as in panel_scale9x, of the replaced picture
+ * Refusals, in this order: 1 w or h past 682; 2; 3; 4 replaced, middle, singles or bytes; 13; 14 palette_len of 0 or
+ * past 256, also where w or h is 0. With w or h of 0 nothing is written.
+ */
+uint32_t panel_scale9x_palette(uint32_t w, uint32_t h,
+                               uint32_t clarity, float threshold,
+                               const uint32_t *picture, size_t picture_len,
+                               const uint32_t *palette, size_t palette_len,
+                               uint32_t *replaced, size_t replaced_len,
+                               uint32_t *output, size_t output_len,
+                               uint32_t *middle, size_t middle_len,
+                               float *singles, size_t singles_len,
+                               uint8_t *bytes, size_t bytes_len);
 
 /*
  * A session keeps an output three times the size of a picture that changes, and draws anew only what a change can

@@ -10,8 +10,9 @@ mod root;
 use std::process::ExitCode;
 
 const USAGE: &str = "usage: compare root [--spread N] | distance [PAIRS] [SEED] | whole [COUNT] [SEED]
-       | clarity [COUNT] [SEED] | session [LISTS] [SEED] | session9 [LISTS] [SEED] | page [FILES] [SEED]
-       | record [--write] | bench [--rows] [scale] [scale9x] [session] [session9] [clarity]
+       | clarity [COUNT] [SEED] | palette [COUNT] [SEED] | session [LISTS] [SEED] | session9 [LISTS] [SEED]
+       | page [FILES] [SEED] | record [--write]
+       | bench [--rows] [scale] [scale9x] [session] [session9] [clarity] [palette]
        | bench --calls scale|scale9x page|noise SIDE [original]";
 
 fn main() -> ExitCode {
@@ -41,7 +42,7 @@ fn beside_the_original(name: &str, rest: &[&str]) -> Option<bool> {
 /// The subcommands that need the original are not made without it: in the gate that is a failure.
 #[cfg(not(original))]
 fn beside_the_original(name: &str, _: &[&str]) -> Option<bool> {
-    if !["distance", "whole", "clarity", "session", "session9", "page", "record", "bench"].contains(&name) {
+    if !["distance", "whole", "clarity", "palette", "session", "session9", "page", "record", "bench"].contains(&name) {
         return None;
     }
     println!("NOT COMPARED: {}: THE ORIGINAL SCALEFX WAS NOT FOUND", name.to_uppercase());

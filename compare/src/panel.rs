@@ -59,6 +59,7 @@ mod c {
     extern "C" {
         pub fn panel_root(x: c_float, root: *mut c_float) -> u32;
         pub fn panel_distance(p: u32, q: u32) -> c_float;
+        pub fn panel_nearness(p: u32, q: u32) -> u32;
         pub fn panel_scale(
             w: u32,
             h: u32,
@@ -80,6 +81,44 @@ mod c {
             threshold: c_float,
             picture: *const u32,
             picture_len: usize,
+            output: *mut u32,
+            output_len: usize,
+            middle: *mut u32,
+            middle_len: usize,
+            singles: *mut c_float,
+            singles_len: usize,
+            bytes: *mut u8,
+            bytes_len: usize,
+        ) -> u32;
+        pub fn panel_scale_palette(
+            w: u32,
+            h: u32,
+            clarity: u32,
+            threshold: c_float,
+            picture: *const u32,
+            picture_len: usize,
+            palette: *const u32,
+            palette_len: usize,
+            replaced: *mut u32,
+            replaced_len: usize,
+            output: *mut u32,
+            output_len: usize,
+            singles: *mut c_float,
+            singles_len: usize,
+            bytes: *mut u8,
+            bytes_len: usize,
+        ) -> u32;
+        pub fn panel_scale9x_palette(
+            w: u32,
+            h: u32,
+            clarity: u32,
+            threshold: c_float,
+            picture: *const u32,
+            picture_len: usize,
+            palette: *const u32,
+            palette_len: usize,
+            replaced: *mut u32,
+            replaced_len: usize,
             output: *mut u32,
             output_len: usize,
             middle: *mut u32,
@@ -198,6 +237,10 @@ pub fn distance(p: u32, q: u32) -> f32 {
     unsafe { c::panel_distance(p, q) }
 }
 
+pub fn nearness(p: u32, q: u32) -> u32 {
+    unsafe { c::panel_nearness(p, q) }
+}
+
 pub fn scale(
     [w, h]: [u32; 2],
     setting: Setting,
@@ -241,6 +284,78 @@ pub fn scale9x(
             setting.threshold(),
             picture.as_ptr(),
             picture.len(),
+            output.as_mut_ptr(),
+            output.len(),
+            middle.as_mut_ptr(),
+            middle.len(),
+            singles.as_mut_ptr(),
+            singles.len(),
+            bytes.as_mut_ptr(),
+            bytes.len(),
+        )
+    }
+}
+
+/// A palette, and the buffer that takes the picture replaced by its entries.
+pub struct Palette<'a> {
+    pub entries: &'a [u32],
+    pub replaced: &'a mut [u32],
+}
+
+pub fn scale_palette(
+    [w, h]: [u32; 2],
+    setting: Setting,
+    picture: &[u32],
+    palette: Palette,
+    output: &mut [u32],
+    singles: &mut [f32],
+    bytes: &mut [u8],
+) -> u32 {
+    unsafe {
+        c::panel_scale_palette(
+            w,
+            h,
+            setting.kind,
+            setting.threshold(),
+            picture.as_ptr(),
+            picture.len(),
+            palette.entries.as_ptr(),
+            palette.entries.len(),
+            palette.replaced.as_mut_ptr(),
+            palette.replaced.len(),
+            output.as_mut_ptr(),
+            output.len(),
+            singles.as_mut_ptr(),
+            singles.len(),
+            bytes.as_mut_ptr(),
+            bytes.len(),
+        )
+    }
+}
+
+#[allow(clippy::too_many_arguments)]
+pub fn scale9x_palette(
+    [w, h]: [u32; 2],
+    setting: Setting,
+    picture: &[u32],
+    palette: Palette,
+    output: &mut [u32],
+    middle: &mut [u32],
+    singles: &mut [f32],
+    bytes: &mut [u8],
+) -> u32 {
+    unsafe {
+        c::panel_scale9x_palette(
+            w,
+            h,
+            setting.kind,
+            setting.threshold(),
+            picture.as_ptr(),
+            picture.len(),
+            palette.entries.as_ptr(),
+            palette.entries.len(),
+            palette.replaced.as_mut_ptr(),
+            palette.replaced.len(),
             output.as_mut_ptr(),
             output.len(),
             middle.as_mut_ptr(),

@@ -3,12 +3,13 @@
 //! hold does not matter to it. The original makes its own at each call.
 
 use super::bench_clarity;
+use super::bench_palette;
 use super::bench_session;
 use super::font;
 use super::original;
 use super::random::Random;
 use super::times::{best, time, Form};
-use crate::panel::{self, Screen, Setting, STANDARD};
+use crate::panel::{self, Palette, Screen, Setting, STANDARD};
 use std::hint::black_box;
 
 /// Sides by repetitions.
@@ -66,6 +67,18 @@ impl Buffers {
         let refusal = panel::scale9x(sides, setting, picture, output, middle, &mut self.singles, &mut self.bytes);
         assert_eq!(refusal, 0);
     }
+
+    pub fn scale_palette(&mut self, picture: &[u32], entries: &[u32], replaced: &mut [u32], side: usize) {
+        let (sides, palette, output) = ([side as u32; 2], Palette { entries, replaced }, &mut self.output);
+        let (singles, bytes) = (&mut self.singles, &mut self.bytes);
+        assert_eq!(panel::scale_palette(sides, STANDARD, picture, palette, output, singles, bytes), 0);
+    }
+
+    pub fn scale9x_palette(&mut self, picture: &[u32], entries: &[u32], replaced: &mut [u32], side: usize) {
+        let (sides, palette, output) = ([side as u32; 2], Palette { entries, replaced }, &mut self.output);
+        let (middle, singles, bytes) = (&mut self.middle, &mut self.singles, &mut self.bytes);
+        assert_eq!(panel::scale9x_palette(sides, STANDARD, picture, palette, output, middle, singles, bytes), 0);
+    }
 }
 
 // Kept out of line, so that a profiler finds them by name.
@@ -119,7 +132,7 @@ fn nine_times(form: Form) {
 }
 
 /// The parts by name.
-const PARTS: [&str; 5] = ["scale", "scale9x", "session", "session9", "clarity"];
+const PARTS: [&str; 6] = ["scale", "scale9x", "session", "session9", "clarity", "palette"];
 
 /// Prints the times of the parts named, or of all; nothing is compared, and nothing run where a word is no part.
 pub fn run(form: Form, parts: &[&str]) -> Option<bool> {
@@ -141,6 +154,9 @@ pub fn run(form: Form, parts: &[&str]) -> Option<bool> {
     }
     if wanted("clarity") {
         bench_clarity::run(form);
+    }
+    if wanted("palette") {
+        bench_palette::run(form);
     }
     Some(true)
 }

@@ -26,11 +26,23 @@ impl Screen {
 
 /// A buffer's length, against the length that the call needs.
 #[derive(Clone, Copy, Debug, PartialEq, Eq)]
-enum Room {
+pub enum Room {
     Exact,
     OneShort,
     Longer,
     Empty,
+}
+
+impl Room {
+    /// The length lent where n elements are needed; a longer buffer by the number handed in.
+    pub fn length(self, n: usize, by: usize) -> usize {
+        match self {
+            Room::Exact => n,
+            Room::OneShort => n.saturating_sub(1),
+            Room::Longer => n + 1 + by % 29,
+            Room::Empty => 0,
+        }
+    }
 }
 
 /// The buffers of a call, in the order in which they are checked; three-times is lent no middle.
@@ -148,7 +160,13 @@ impl Case {
         Case { times, w, h, setting: STANDARD, picture, kind: "given", rooms: ALL_EXACT, seed: 1 }
     }
 
-    fn lawful(&self) -> bool {
+    /// The same call on another picture of the same sides.
+    pub fn on(&self, picture: Vec<u32>) -> Case {
+        Case { picture, ..self.clone() }
+    }
+
+    /// Whether both sides are within the limit.
+    pub fn lawful(&self) -> bool {
         self.w.max(self.h) <= self.times.limit()
     }
 
@@ -157,12 +175,7 @@ impl Case {
         let needed = self.times.needed(self.w, self.h);
         std::array::from_fn(|i| {
             let n = if self.lawful() { needed[i] as usize } else { 24 };
-            match self.rooms[i] {
-                Room::Exact => n,
-                Room::OneShort => n.saturating_sub(1),
-                Room::Longer => n + 1 + (self.seed as usize + i) % 29,
-                Room::Empty => 0,
-            }
+            self.rooms[i].length(n, self.seed as usize + i)
         })
     }
 
@@ -182,18 +195,6 @@ impl Case {
         }
     }
 
-    /// Cases that are a little simpler: runs of columns or rows taken out, the longest first, and words made black or white.
-    pub fn simpler(&self) -> impl Iterator<Item = Case> + '_ {
-        let lawful = self.lawful();
-        let columns = runs(if lawful { self.w } else { 0 }).map(|run| self.without(run, (0, 0)));
-        let rows = runs(if lawful { self.h } else { 0 }).map(|run| self.without((0, 0), run));
-        let words = (0..self.picture.len()).flat_map(move |i| {
-            let plainer = [0, 0x00ff_ffff].into_iter().take_while(move |&word| word != self.picture[i]);
-            plainer.map(move |word| self.with(i, word))
-        });
-        columns.chain(rows).chain(words)
-    }
-
     fn without(&self, columns: (u32, u32), rows: (u32, u32)) -> Case {
         let outside = |run: (u32, u32), at: u32| at < run.0 || run.0 + run.1 <= at;
         let places =
@@ -209,8 +210,28 @@ impl Case {
     }
 }
 
+/// What a smaller reproduction is sought of.
+pub trait Simpler: Sized {
+    /// Cases that are a little simpler, those that leave out most first.
+    fn simpler(&self) -> Box<dyn Iterator<Item = Self> + '_>;
+}
+
+impl Simpler for Case {
+    /// Runs of columns or rows taken out, the longest first, and words made black or white.
+    fn simpler(&self) -> Box<dyn Iterator<Item = Case> + '_> {
+        let lawful = self.lawful();
+        let columns = runs(if lawful { self.w } else { 0 }).map(|run| self.without(run, (0, 0)));
+        let rows = runs(if lawful { self.h } else { 0 }).map(|run| self.without((0, 0), run));
+        let words = (0..self.picture.len()).flat_map(move |i| {
+            let plainer = [0, 0x00ff_ffff].into_iter().take_while(move |&word| word != self.picture[i]);
+            plainer.map(move |word| self.with(i, word))
+        });
+        Box::new(columns.chain(rows).chain(words))
+    }
+}
+
 /// The runs of half the places on an axis, of a quarter of them, and so on to single places: (first, length).
-fn runs(places: u32) -> impl Iterator<Item = (u32, u32)> {
+pub fn runs(places: u32) -> impl Iterator<Item = (u32, u32)> {
     let lengths = std::iter::successors(Some(places / 2), |n| Some(n / 2)).take_while(|&n| n > 0);
     let lengths = lengths.chain((places == 1).then_some(1));
     lengths.flat_map(move |n| (0..places).step_by(n as usize).map(move |first| (first, n.min(places - first))))

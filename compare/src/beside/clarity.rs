@@ -8,7 +8,7 @@ use super::pictures::KINDS;
 use super::plain::{Clarity, Drawn};
 use super::random::Random;
 use super::setting::{self, like_standard, meant};
-use super::whole::{good, wrong};
+use super::whole::{ending, good, wrong};
 use crate::panel::Setting;
 
 // ---- the plain enlargement beside the original
@@ -58,14 +58,6 @@ fn run_plain(count: usize, random: &mut Random) -> bool {
         ending(same)
     );
     same
-}
-
-fn ending(same: bool) -> &'static str {
-    if same {
-        "0 differences"
-    } else {
-        "a difference, and the run stopped there"
-    }
 }
 
 // ---- the library beside both

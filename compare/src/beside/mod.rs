@@ -3,6 +3,7 @@
 mod alone;
 mod bench;
 mod bench_clarity;
+mod bench_palette;
 mod bench_session;
 mod case;
 mod clarity;
@@ -17,6 +18,8 @@ mod original;
 mod page;
 mod page_files;
 mod pair;
+mod palette;
+mod palettes;
 mod pictures;
 mod plain;
 mod plain_tags;
@@ -38,6 +41,7 @@ pub fn run(name: &str, rest: &[&str]) -> Option<bool> {
         ("distance", _) => counted(distance::run, 2_000_000, rest),
         ("whole", _) => counted(whole::run, 20_000, rest),
         ("clarity", _) => counted(clarity::run, 40_000, rest),
+        ("palette", _) => counted(palette::run, 20_000, rest),
         ("session", _) => counted(session::run_three, 40_000, rest),
         ("session9", _) => counted(session::run_nine, 10_000, rest),
         ("page", _) => counted(page::run, 4_000, rest),

@@ -1,6 +1,6 @@
 //! Whole pictures, three and nine times: the library beside the original, in every bit of every buffer.
 
-use super::case::{self, Case};
+use super::case::{self, Case, Simpler};
 use super::drawing::By;
 use super::lent::{Bits, Lent};
 use super::original;
@@ -9,19 +9,20 @@ use super::plain::{Clarity, Drawn};
 use super::random::Random;
 use super::setting::meant;
 use crate::panel::{self, Screen};
+use std::fmt::Display;
 
 /// The buffers of a call, as they are lent or as they are left.
 #[derive(Clone)]
-struct Buffers {
-    picture: Lent<u32>,
-    output: Lent<u32>,
-    middle: Lent<u32>,
-    singles: Lent<f32>,
-    bytes: Lent<u8>,
+pub struct Buffers {
+    pub picture: Lent<u32>,
+    pub output: Lent<u32>,
+    pub middle: Lent<u32>,
+    pub singles: Lent<f32>,
+    pub bytes: Lent<u8>,
 }
 
 impl Buffers {
-    fn of(case: &Case) -> Buffers {
+    pub fn of(case: &Case) -> Buffers {
         let mut random = Random::new(case.seed);
         let [picture, output, middle, singles, bytes] = case.lengths();
         Buffers {
@@ -43,7 +44,7 @@ impl Buffers {
     }
 
     /// What an enlargement leaves: words and stage results at the front of each buffer.
-    fn fill(&mut self, case: &Case, clarity: Clarity, by: By) {
+    pub fn fill(&mut self, case: &Case, clarity: Clarity, by: By) {
         let (w, h) = (case.w as usize, case.h as usize);
         let mut last = by.draw(clarity, &case.picture, w, h);
         if case.times == Screen::Nine {
@@ -59,7 +60,7 @@ impl Buffers {
     }
 
     /// A line on the first buffer that is not as expected.
-    fn difference(&self, expected: &Buffers, case: &Case) -> Option<String> {
+    pub fn difference(&self, expected: &Buffers, case: &Case) -> Option<String> {
         let pixels = second_pass(case);
         words("picture", &self.picture, &expected.picture)
             .or_else(|| stage(["metric", "weight"], pixels, &self.singles, &expected.singles))
@@ -85,7 +86,7 @@ fn bytes(stages: &Drawn) -> Vec<u8> {
     stages.junctions.iter().chain(&stages.tags).flatten().copied().collect()
 }
 
-fn words(name: &str, got: &Lent<u32>, expected: &Lent<u32>) -> Option<String> {
+pub fn words(name: &str, got: &Lent<u32>, expected: &Lent<u32>) -> Option<String> {
     let (at, a, b) = got.difference(expected)?;
     Some(format!("{name} element {at}: {a:08x}, expected {b:08x}"))
 }
@@ -136,7 +137,7 @@ pub fn wrong_exact(w: usize, h: usize, picture: &[u32]) -> Option<String> {
 }
 
 /// Whether a case is as expected; where it is not, the smallest case found that is still wrong is printed.
-pub fn good(mut case: Case, wrong: impl Fn(&Case) -> Option<String>) -> bool {
+pub fn good<C: Simpler + Display>(mut case: C, wrong: impl Fn(&C) -> Option<String>) -> bool {
     if wrong(&case).is_none() {
         return true;
     }
@@ -193,7 +194,16 @@ pub fn run(count: usize, seed: u64) -> bool {
         tally.pixels,
         tally.empty,
         tally.refused,
-        if good { "0 differences" } else { "a difference, and the run stopped there" }
+        ending(good)
     );
     good
+}
+
+/// How a comparison that stops at its first difference ends its line.
+pub fn ending(same: bool) -> &'static str {
+    if same {
+        "0 differences"
+    } else {
+        "a difference, and the run stopped there"
+    }
 }

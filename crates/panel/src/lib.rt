@@ -3,6 +3,7 @@
 mod numbers;
 mod pages;
 mod palettes;
+mod palettes9;
 mod pictures;
 mod sessions;
 mod sessions9;

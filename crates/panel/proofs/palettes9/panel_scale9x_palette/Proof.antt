@@ -1,10 +1,10 @@
--- `panel::palettes::panel_scale9x_palette` meets its contract. Assumes nothing.
+-- `panel::palettes9::panel_scale9x_palette` meets its contract. Assumes nothing.
 use mathlib.Core.Path.{subst}
 use Rattle.clarity.specs.declared.Clarity.{Clarity}
 use Rattle.whole_palette.specs.Calls.{ScalesBy9}
 use borrow.Author.Needs.{needs}
-use Rattle.panel.proofs.palettes.panel_scale9x_palette.Statement.{statement}
-use Rattle.panel.proofs.palettes.panel_scale9x_palette.Tie as tie
+use Rattle.panel.proofs.palettes9.panel_scale9x_palette.Statement.{statement}
+use Rattle.panel.proofs.palettes9.panel_scale9x_palette.Tie as tie
 
 setting-of-requires : tie.Need-setting-of-requires
 setting-of-requires c κs = search needs
