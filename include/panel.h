@@ -221,9 +221,9 @@ uint32_t panel_scale9x(uint32_t w, uint32_t h,
  *   output    9wh words, written: 3h rows of 3w
  *   singles   8wh floats, written: as in panel_scale, of the replaced picture
  *   bytes     8wh bytes, written: as in panel_scale, of the replaced picture
- * Cost. Words that were seen before are looked up again from a small table, so a page of few colours costs little more
- * than panel_scale; a picture whose words all differ costs a search of the palette for each word, and so may a page on
- * which colours that share a place in the table take turns. docs/PERFORMANCE.md of the repository has the figures.
+ * Cost. The entries of words that came before are kept in a table of 251 places, so a page of few colours costs little
+ * more than panel_scale; in a picture of very many colours most words cost a search of the palette. docs/PERFORMANCE.md
+ * of the repository has the figures.
  * Refusals, in this order: 1 w or h past 2048; 2; 3; 4 replaced, singles or bytes; 13; 14 palette_len of 0 or past 256,
  * also where w or h is 0. With w or h of 0 nothing is written.
  */

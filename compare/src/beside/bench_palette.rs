@@ -52,11 +52,17 @@ fn scale9x(picture: &[u32], palette: &[u32], repetitions: usize) -> (f64, f64) {
     )
 }
 
+/// The page and the noise, and two colours by turns that the library looks for at one place first, their difference being
+/// the number of places.
+fn pictures() -> Vec<(&'static str, Vec<u32>)> {
+    let turns = (0..SIDE * SIDE).map(|i| 0x0010_1820 + 251 * (i as u32 % 2)).collect();
+    PICTURES.into_iter().map(|name| (name, picture(name, SIDE))).chain([("turns", turns)]).collect()
+}
+
 /// Prints the rows of every picture and palette.
 pub fn run(form: Form) {
     form.note("palettes: microseconds, beside the library's own without one");
-    for picture_name in PICTURES {
-        let picture = picture(picture_name, SIDE);
+    for (picture_name, picture) in pictures() {
         for (name, palette) in palettes() {
             row(form, "scale", picture_name, name, scale(&picture, &palette, 20));
             row(form, "scale9x", picture_name, name, scale9x(&picture, &palette, 3));

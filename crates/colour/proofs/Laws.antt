@@ -65,10 +65,6 @@ by-channels p q r s g h dg b d db n er es eg eh edg eb ed edb e =
     cc (weighed-is (redOf p) (greenOf p) (blueOf p) (redOf q) (greenOf q) (blueOf q))
 
 module _ (p q : ℕ) where
-  pub nearness-weighed : nearnessOf p q ≡ weighedOf (redOf p) (redOf q) (gap (greenOf p) (greenOf q)) (gap (blueOf p) (blueOf q))
-  unfolding nearnessOf
-  nearness-weighed = weighed-is (redOf p) (greenOf p) (blueOf p) (redOf q) (greenOf q) (blueOf q)
-
   pub nearness-small : nearnessOf p q ≤ 298464750
   unfolding nearnessOf N weighedOf
   nearness-small = weighed-small (redOf p) (redOf q) (gap (greenOf p) (greenOf q)) (gap (blueOf p) (blueOf q)) (byte (p / 2 ^ 16)) (byte (q / 2 ^ 16))

@@ -1,2 +1,3 @@
 pub mod Palette
 pub mod Claims
+pub mod Kept

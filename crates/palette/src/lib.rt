@@ -5,6 +5,7 @@ ghost use Prim.Native.Nat.{_<_, _≤_};
 ghost use lib.ListN.{length};
 ghost use Rattle.picture.specs.Fill.{put};
 ghost use Rattle.palette.specs.Palette.{nearestOf, replacedOf};
+ghost use Rattle.palette.specs.Kept.{Keeps};
 
 // The entry nearest to the word, top byte and all: no entry has a smaller N, and of equals it is the one at the lowest place. 0 where
 // there is none.
@@ -29,15 +30,46 @@ pub fn nearest(palette: &[u32], word: u32) -> u32
     best
 }
 
-// How many words' entries are kept along the way: a page has few colours. By this prime the sixteen colours of either common palette, all
-// colours of four levels a channel, and greys four apart have places of their own.
+// How many words' entries are kept along the way: a page has few colours.
 const KEPT: usize = 251;
 
-// Where a word's entry is kept: any place serves.
+// Where a word's entry is looked for first. By this prime the sixteen colours of either common palette, all colours of four levels a
+// channel, and greys four apart have places of their own.
 fn slot(word: u32) -> usize
     ensures { λ r. ⌜ r < 251 ⌝ }
 {
     (word % 251) as usize
+}
+
+// Where it is looked for next: an entry whose first place another word takes goes there, so that two words of one first place do not
+// push each other out.
+fn second_slot(word: u32) -> usize
+    ensures { λ r. ⌜ r < 251 ⌝ }
+{
+    (word / 251 % 251) as usize
+}
+
+// The entry nearest to the word: the one kept where it is kept, else found and kept.
+fn entry_of(palette: &[u32], word: u32, words: &mut [u32; KEPT], entries: &mut [u32; KEPT]) -> u32
+    requires { ⌜ Keeps (now palette) (now words) (now entries) ⌝ }
+    ensures { λ r. ⌜ (r ≡ nearestOf (now (palette .entry)) word) × Keeps (now (palette .entry)) (now (words .exit)) (now (entries .exit)) ⌝ }
+{
+    let k = slot(word);
+    if words[k] == word {
+        return entries[k];
+    }
+    let j = second_slot(word);
+    if words[j] == word {
+        return entries[j];
+    }
+    let old = words[k];
+    let m = second_slot(old);
+    entries[m] = entries[k];
+    words[m] = old;
+    let entry = nearest(palette, word);
+    entries[k] = entry;
+    words[k] = word;
+    entry
 }
 
 // The picture's first n words, each replaced by the nearest entry, at the front of `replaced`.
@@ -50,13 +82,8 @@ pub fn replace(picture: &[u32], n: usize, palette: &[u32], replaced: &mut [u32])
     let mut entries = [first; KEPT];
     let mut i: usize = 0;
     while i < n {
-        let word = picture[i];
-        let k = slot(word);
-        if words[k] != word {
-            entries[k] = nearest(palette, word);
-            words[k] = word;
-        }
-        replaced[i] = entries[k];
+        let entry = entry_of(palette, picture[i], &mut words, &mut entries);
+        replaced[i] = entry;
         i += 1;
     }
 }

@@ -69,7 +69,7 @@ pub fn area(w: u32, h: u32) -> usize
 }
 
 // The words of a picture within the limit, and 0 past it, where no length is looked at.
-pub fn words_of(side: u32, w: u32, h: u32) -> usize
+fn words_of(side: u32, w: u32, h: u32) -> usize
     requires { ⌜ side ≤ 2048 ⌝ }
     ensures { λ r. ⌜ r ≡ wordsWithin side w h ⌝ }
 {

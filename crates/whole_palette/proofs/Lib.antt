@@ -1,4 +1,5 @@
 mod Refusals
 mod Replaced
 mod Called
+mod Entries
 pub mod Theorem

@@ -1,9 +1,9 @@
 -- What `specs/Claims.antt` says of the calls with a palette. Assumes nothing.
-use mathlib.Core.Path.{_≡_, refl, sym, ap, _∙_}
+use mathlib.Core.Path.{_≡_, refl, sym, ap, _∙_, subst}
 use mathlib.Core.List.{List}
-use Prim.Native.Nat.{ℕ, _*_}
+use Prim.Native.Nat.{ℕ, _+_, _*_}
 use lib.Ieee.{Float}
-use lib.ListN.{length, take}
+use lib.ListN.{length, getD, take}
 use borrow.Author.Tests.{ne-eqb}
 use Rattle.picture.specs.Picture.{words}
 use Rattle.picture.specs.Fill.{put}
@@ -14,9 +14,10 @@ use Rattle.whole.specs.Calls.{filled}
 use Rattle.palette.specs.Palette.{replacedOf}
 use Rattle.palette.proofs.Laws.{nearest-laws}
 use Rattle.whole_palette.specs.Calls.{ScalesBy, ScalesBy9}
-use Rattle.whole_palette.specs.Claims.{By3, By9, PaletteLaws}
+use Rattle.whole_palette.specs.Claims.{EntryOf, By3, By9, PaletteLaws}
 use Rattle.whole_palette.proofs.Refusals.{in-turn}
 use Rattle.whole_palette.proofs.Replaced.{Ready, part, replaces, ready, plain-taken}
+use Rattle.whole_palette.proofs.Entries.{entries-three, entries-nine}
 
 -- a call that is not refused has written, and one that is refused has not
 is-written : {E : Type 0} (r : ℕ) (vs l l′ : List E) → r ≡ 0 → l′ ≡ filled r vs l → l′ ≡ put 0 vs l
@@ -36,6 +37,8 @@ module _ {q : Clarity} {w h : ℕ} {p palette x o : List ℕ} {s : List Float} {
       singles-now = c .singles-now ∙ ap (λ (l : List ℕ). filled r (singlesOf q w h (words w l)) s) (sym (same z));
       bytes-now = c .bytes-now ∙ ap (λ (l : List ℕ). filled r (bytesOf q w h (words w l)) b) (sym (same z));
     };
+    shows = λ z i j a e. subst (λ (l : List ℕ). EntryOf palette (getD l (j * (3 * w) + i) 0)) (sym (is-written r _ o o′ z (c .output-now)))
+        (entries-three w h p palette x (fits z) q o i j a e);
     refuses = in-turn q (asked3 w h (w * h) (w * h)) (lent3 (length x) p o s b) palette x r refl (c .refusal-now);
     keeps = λ d. (
       is-kept r _ x x′ d (c .replaced-now),
@@ -66,6 +69,8 @@ module _ {q : Clarity} {w h : ℕ} {p palette x o m : List ℕ} {s : List Float}
       singles-now = c .singles-now ∙ ap (λ (l : List ℕ). filled r (singlesOf q (3 * w) (3 * h) (again l)) s) (sym (same z));
       bytes-now = c .bytes-now ∙ ap (λ (l : List ℕ). filled r (bytesOf q (3 * w) (3 * h) (again l)) b) (sym (same z));
     };
+    shows = λ z i j a e. subst (λ (l : List ℕ). EntryOf palette (getD l (j * (9 * w) + i) 0)) (sym (is-written r _ o o′ z (c .output-now)))
+        (entries-nine w h p palette x (fits z) q o i j a e);
     refuses = in-turn q (asked9 w h (w * h) (w * h)) (lent9 (length x) p o m s b) palette x r refl (c .refusal-now);
     keeps = λ d. (
       is-kept r _ x x′ d (c .replaced-now),

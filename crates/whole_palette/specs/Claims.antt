@@ -3,7 +3,7 @@
 use mathlib.Core.Path.{_≡_}
 use mathlib.Core.Logic.{_⊎_}
 use mathlib.Core.List.{List}
-use Prim.Native.Nat.{ℕ, _*_, _≤_, _<_}
+use Prim.Native.Nat.{ℕ, _+_, _*_, _≤_, _<_}
 use lib.Ieee.{Float}
 use lib.ListN.{length, getD, take, drop}
 use Rattle.picture.specs.Refusal as Refusal
@@ -35,12 +35,20 @@ pub record InTurn (f n : ℕ) (palette x : List ℕ) (r : ℕ) : Type 0 where
   -- and nothing else is refused
   pub taken : f ≡ Refusal.none → n ≤ length x → 0 < length palette → length palette ≤ 256 → r ≡ 0
 
+-- a word of the palette, top byte and all
+pub record EntryOf (palette : List ℕ) (word : ℕ) : Type 0 where
+  pub place : ℕ
+  pub inside : place < length palette
+  pub is : word ≡ getD palette place 0
+
 -- a three-times call: picture, palette, replaced, output, singles, bytes at entry; the last four at exit; the answer r
 pub record By3 (q : Clarity) (w h : ℕ) (p palette x o : List ℕ) (s : List Float) (b : List ℕ)
     (x′ o′ : List ℕ) (s′ : List Float) (b′ : List ℕ) (r : ℕ) : Type 0 where
   pub replaces : r ≡ 0 → Replaces (w * h) p palette x x′
   -- before enlarging: all that `scale` promises is promised of the replaced picture
   pub enlarges : r ≡ 0 → Scales q w h (take (w * h) x′) o s b o′ s′ b′ r
+  -- so the glass can show every word of the output
+  pub shows : r ≡ 0 → (column row : ℕ) → column < 3 * w → row < 3 * h → EntryOf palette (getD o′ (row * (3 * w) + column) 0)
   pub refuses : InTurn (refusal3 q w h p o s b) (w * h) palette x r
   -- a refused call leaves every buffer as it was
   pub keeps : (r ≡ 0 → ⊥) → (x′ ≡ x) × (o′ ≡ o) × (s′ ≡ s) × (b′ ≡ b)
@@ -50,6 +58,7 @@ pub record By9 (q : Clarity) (w h : ℕ) (p palette x o m : List ℕ) (s : List 
     (x′ o′ m′ : List ℕ) (s′ : List Float) (b′ : List ℕ) (r : ℕ) : Type 0 where
   pub replaces : r ≡ 0 → Replaces (w * h) p palette x x′
   pub enlarges : r ≡ 0 → Scales9 q w h (take (w * h) x′) o m s b o′ m′ s′ b′ r
+  pub shows : r ≡ 0 → (column row : ℕ) → column < 9 * w → row < 9 * h → EntryOf palette (getD o′ (row * (9 * w) + column) 0)
   pub refuses : InTurn (refusal9 q w h p o m s b) (w * h) palette x r
   pub keeps : (r ≡ 0 → ⊥) → (x′ ≡ x) × (o′ ≡ o) × (m′ ≡ m) × (s′ ≡ s) × (b′ ≡ b)
 
