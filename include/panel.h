@@ -216,7 +216,7 @@ uint32_t panel_scale9x(uint32_t w, uint32_t h,
  *   w, h      at most 2048 each
  *   clarity   PANEL_STANDARD, PANEL_THRESHOLD or PANEL_GATED, with its threshold
  *   picture   wh words, read
- *   palette   palette_len entries, read: 1 to 256 words, each of which counts. Colours may come again
+ *   palette   palette_len entries, read: 1 to 256 words, each of which counts. An entry may stand more than once
  *   replaced  wh words, written: the replaced picture
  *   output    9wh words, written: 3h rows of 3w
  *   singles   8wh floats, written: as in panel_scale, of the replaced picture

@@ -8,7 +8,7 @@ use super::lent::Lent;
 use super::palettes::{self, nearest, nearness};
 use super::pictures::KINDS;
 use super::random::Random;
-use super::setting::{self, meant};
+use super::setting::{self, like_standard, meant};
 use super::whole::{ending, good, words, Buffers};
 use crate::panel::{self, Palette, Screen};
 use std::collections::BTreeMap;
@@ -83,18 +83,21 @@ fn wrong(given: &Given) -> Option<String> {
     let mut got = Buffers::of(case);
     let mut replaced = Lent::new(given.replaced_len(), &mut random);
     let palette = Lent::with(&given.palette, given.palette.len(), &mut random);
-    let (lent, mut replaced_due) = (got.clone(), replaced.clone());
+    let (lent, mut replaced_due, palette_due) = (got.clone(), replaced.clone(), palette.clone());
     let refusal = given.call(&mut got, &mut replaced, &palette);
     if refusal != given.refusal() {
         return Some(format!("refusal {refusal}, expected {}", given.refusal()));
     }
+    let lists = |replaced_due: &Lent<u32>| {
+        words("palette", &palette, &palette_due).or_else(|| words("replaced", &replaced, replaced_due))
+    };
     let Some(clarity) = meant(case.setting).filter(|_| refusal == 0) else {
-        return words("replaced", &replaced, &replaced_due).or_else(|| got.difference(&lent, case));
+        return lists(&replaced_due).or_else(|| got.difference(&lent, case));
     };
     let picture: Vec<u32> = case.picture.iter().map(|&word| nearest(&given.palette, word)).collect();
     replaced_due.put(&picture);
     let on = case.on(picture);
-    words("replaced", &replaced, &replaced_due).or_else(|| {
+    lists(&replaced_due).or_else(|| {
         By::serving(clarity).iter().find_map(|&by| {
             let mut expected = lent.clone();
             expected.fill(&on, clarity, by);
@@ -107,6 +110,8 @@ fn wrong(given: &Given) -> Option<String> {
 #[derive(Default)]
 struct Tally {
     enlarged: usize,
+    /// Of these, the ones that are held to the original too, and the ones enlarged nine times.
+    original: usize,
     nine: usize,
     pixels: usize,
     empty: usize,
@@ -120,6 +125,8 @@ struct Tally {
     refused: BTreeMap<u32, usize>,
     /// Of those refused by 4, the ones whose other buffers are long enough.
     replaced_short: usize,
+    /// Calls refused for their palette by the number of its entries.
+    refused_sizes: BTreeMap<usize, usize>,
 }
 
 impl Tally {
@@ -131,6 +138,9 @@ impl Tally {
             number => {
                 *self.refused.entry(number).or_default() += 1;
                 self.replaced_short += usize::from(number == 4 && given.case.refusal() != 4);
+                if number == 14 {
+                    *self.refused_sizes.entry(given.palette.len()).or_default() += 1;
+                }
             }
         }
         good(given, wrong)
@@ -138,6 +148,7 @@ impl Tally {
 
     fn add(&mut self, given: &Given) {
         self.enlarged += 1;
+        self.original += usize::from(meant(given.case.setting).is_some_and(like_standard));
         self.nine += usize::from(given.case.times == Screen::Nine);
         self.pixels += given.case.picture.len();
         *self.sizes.entry(given.palette.len()).or_default() += 1;
@@ -152,12 +163,30 @@ impl Tally {
         }
     }
 
+    /// What the run was to meet and did not: without it nothing would be shown of that.
+    fn unmet(&self) -> Vec<&'static str> {
+        let sizes: Vec<usize> = self.sizes.keys().chain(self.refused_sizes.keys()).copied().collect();
+        let met = [
+            ("a palette of each size", palettes::SIZES.iter().all(|size| sizes.contains(size))),
+            ("each refusal", [1, 2, 3, 4, 13, 14].iter().all(|number| self.refused.contains_key(number))),
+            ("a replaced buffer that alone is short", self.replaced_short > 0),
+            ("a tie of colours", self.colours_tie > 0),
+            ("a tie of top bytes", self.top_bytes_tie > 0),
+            ("a top byte replaced", self.top_bytes > 0),
+            ("a picture without pixels", self.empty > 0),
+            ("both enlargements beside the original", self.original > 0 && self.nine > 0 && self.nine < self.enlarged),
+        ];
+        met.into_iter().filter(|(_, met)| !met).map(|(name, _)| name).collect()
+    }
+
     fn print(&self, same: bool) {
         let list = |counts: &mut dyn Iterator<Item = String>| counts.collect::<Vec<String>>().join(", ");
         println!(
-            "palette: {} pictures enlarged ({} pixels), {} of them nine times, {} without pixels; by entries: {}",
+            "palette: {} pictures enlarged ({} pixels), {} of them beside the original too, {} nine times, {} without pixels; by \
+             entries: {}",
             self.enlarged,
             self.pixels,
+            self.original,
             self.nine,
             self.empty,
             list(&mut self.sizes.iter().map(|(entries, count)| format!("{count} with {entries}")))
@@ -167,9 +196,10 @@ impl Tally {
             self.colours_tie, self.top_bytes_tie, self.top_bytes
         );
         println!(
-            "palette: calls refused: {}; of those by 4 for the replaced buffer alone {}: {}",
+            "palette: calls refused: {}; of those by 4 for the replaced buffer alone {}, of those by 14 {}: {}",
             list(&mut self.refused.iter().map(|(number, count)| format!("{count} by {number}"))),
             self.replaced_short,
+            list(&mut self.refused_sizes.iter().map(|(entries, count)| format!("{count} with {entries}"))),
             ending(same)
         );
     }
@@ -208,7 +238,9 @@ fn run_pictures(count: usize, random: &mut Random) -> bool {
         kind += 1;
     }
     tally.print(same);
-    same
+    let unmet = if same { tally.unmet() } else { Vec::new() };
+    unmet.iter().for_each(|name| println!("palette: not met in this run: {name}"));
+    same && unmet.is_empty()
 }
 
 /// Every pair of values in each channel beside any other channels, and a count of other pairs.

@@ -7,16 +7,16 @@ use Rattle.channels.specs.Channels.{redOf, greenOf, blueOf}
 use Rattle.colour.specs.Nearness.{nearnessOf}
 
 -- the square of the difference of two channels, which may be below 0
-abbrev pub square : ℕ → ℕ → ℤ
-square a b = (pos a -ℤ pos b) *ℤ (pos a -ℤ pos b)
+abbrev pub squareZ : ℕ → ℕ → ℤ
+squareZ a b = (pos a -ℤ pos b) *ℤ (pos a -ℤ pos b)
 
 pub record NearnessLaws : Type 0 where
   -- it is request 8's number with every difference taken with its sign, over the integers
   pub signed : (p q : ℕ)
       → pos (nearnessOf p q)
-      ≡ (pos 1020 +ℤ pos (redOf p) +ℤ pos (redOf q)) *ℤ square (redOf p) (redOf q)
-      +ℤ pos 2040 *ℤ square (greenOf p) (greenOf q)
-      +ℤ (pos 1530 -ℤ pos (redOf p) -ℤ pos (redOf q)) *ℤ square (blueOf p) (blueOf q)
+      ≡ (pos 1020 +ℤ pos (redOf p) +ℤ pos (redOf q)) *ℤ squareZ (redOf p) (redOf q)
+      +ℤ pos 2040 *ℤ squareZ (greenOf p) (greenOf q)
+      +ℤ (pos 1530 -ℤ pos (redOf p) -ℤ pos (redOf q)) *ℤ squareZ (blueOf p) (blueOf q)
   -- it is at most 298,464,750, which black and white have
   pub at-most : (p q : ℕ) → nearnessOf p q ≤ 298464750
   pub reached : nearnessOf 0x000000 0xffffff ≡ 298464750

@@ -1,4 +1,4 @@
-// How near two colours are: the whole number N of docs/RULES.md, in 32 bits.
+// How near two colours are: the whole number N of request 8, in 32 bits.
 use channels::blue;
 use channels::green;
 use channels::red;

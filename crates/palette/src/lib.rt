@@ -33,7 +33,7 @@ pub fn nearest(palette: &[u32], word: u32) -> u32
 // How many words' entries are kept along the way: a page has few colours.
 const KEPT: usize = 251;
 
-// Where a word's entry is looked for first. By this prime the sixteen colours of either common palette, all colours of four levels a
+// Where a word's entry is looked for first. By this prime the sixteen colours of EGA and those of HTML, all colours of four levels a
 // channel, and greys four apart have places of their own.
 fn slot(word: u32) -> usize
     ensures { λ r. ⌜ r < 251 ⌝ }
@@ -41,12 +41,12 @@ fn slot(word: u32) -> usize
     (word % 251) as usize
 }
 
-// Where it is looked for next: an entry whose first place another word takes goes there, so that two words of one first place do not
-// push each other out.
+// Where it is looked for next, which is never the first place: an entry whose first place another word takes is moved there, so that two
+// words of one first place are both kept.
 fn second_slot(word: u32) -> usize
     ensures { λ r. ⌜ r < 251 ⌝ }
 {
-    (word / 251 % 251) as usize
+    ((word % 251 + 1 + word / 251 % 250) % 251) as usize
 }
 
 // The entry nearest to the word: the one kept where it is kept, else found and kept.

@@ -120,6 +120,3 @@ module _ (q : Clarity) (side w h x : ℕ) (o m s : ℕ → ℕ) (lent : Lengths)
       go : (t : Bool) → cond {A = ℕ} t 1 (rest (cond t 0 (w * h))) ≡ cond {A = ℕ} t 1 (rest (w * h))
       go true = refl
       go false = refl
-
-pub within-is : (side w h : ℕ) → w ≤ side → h ≤ side → wordsWithin side w h ≡ w * h
-within-is side w h a b = simp (le-ltb _ _ a, le-ltb _ _ b)

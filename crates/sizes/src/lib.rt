@@ -7,9 +7,9 @@ ghost use Prim.Native.Nat.{_*_, _≤_};
 ghost use Rattle.sizes.specs.Sizes.{asked3, asked9, refusalOf, wordsWithin};
 
 // The largest side of a picture that is enlarged three times, and nine times: 3 * 682 is within 2,048.
-pub const SIDE3: u32 = 2048;
+const SIDE3: u32 = 2048;
 
-pub const SIDE9: u32 = 682;
+const SIDE9: u32 = 682;
 
 // What a call asks for: sides within a limit, and so many words of the picture, of the replaced picture, of the output and of the middle,
 // and elements of both singles and bytes.

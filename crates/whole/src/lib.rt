@@ -3,8 +3,6 @@
 use clarity::Clarity;
 use enlarged::enlarge;
 use sizes::Lengths;
-pub use sizes::SIDE3;
-pub use sizes::SIDE9;
 use sizes::area;
 use sizes::refuse3;
 use sizes::refuse9;

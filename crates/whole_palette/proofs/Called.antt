@@ -15,7 +15,7 @@ use Rattle.whole.specs.Calls.{Scales, Scales9, filled}
 use Rattle.whole.proofs.Sizes.{kept, written}
 use Rattle.palette.specs.Palette.{replacedOf}
 use Rattle.whole_palette.specs.Calls.{refusalPalette, refusalBy3, refusalBy9, ScalesBy, ScalesBy9}
-use Rattle.whole_palette.proofs.Replaced.{Ready, part, ready, plain-taken}
+use Rattle.whole_palette.proofs.Replaced.{part, ready, plain-taken}
 
 module _ (q : Clarity) (w h : ℕ) (p palette x o : List ℕ) (s : List Float) (b : List ℕ) (n f g : ℕ) (en : n ≡ w * h)
     (ef : f ≡ refusalOf q (asked3 w h (w * h) n) (lent3 (length x) p o s b)) (eg : g ≡ refusalPalette f (length palette)) where

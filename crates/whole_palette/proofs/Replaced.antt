@@ -2,7 +2,7 @@
 -- lengths. Assumes nothing.
 use mathlib.Core.Path.{_≡_, sym, ap, _∙_, subst}
 use mathlib.Core.List.{List}
-use Prim.Native.Nat.{ℕ, _+_, _*_, _≤_, _<_}
+use Prim.Native.Nat.{ℕ, _+_, _≤_, _<_}
 use native.Mathlib.Omega.{arith}
 use lib.ListN.{length, getD, take, drop}
 use lib.Seq.{drop-at, getD-take}
@@ -11,7 +11,7 @@ use Rattle.clarity.specs.declared.Clarity.{Clarity}
 use Rattle.sizes.specs.declared.Asked.{Asked}
 use Rattle.sizes.specs.declared.Lengths.{Lengths}
 use Rattle.sizes.specs.Sizes.{refusalOf}
-use Rattle.sizes.proofs.Sizes.{Accepted, accepted}
+use Rattle.sizes.proofs.Sizes.{accepted}
 use Rattle.palette.specs.Palette.{nearestOf, replacedOf}
 use Rattle.palette.specs.Claims.{Nearest}
 use Rattle.palette.proofs.Laws.{nearest-first, replaced-length, replaced-word}

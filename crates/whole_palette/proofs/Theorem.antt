@@ -1,18 +1,21 @@
 -- What `specs/Claims.antt` says of the calls with a palette. Assumes nothing.
 use mathlib.Core.Path.{_≡_, refl, sym, ap, _∙_, subst}
-use mathlib.Core.List.{List}
+use mathlib.Core.List.{List, [], _∷_}
 use Prim.Native.Nat.{ℕ, _+_, _*_}
+use native.Mathlib.Omega.{arith}
 use lib.Ieee.{Float}
 use lib.ListN.{length, getD, take}
 use borrow.Author.Tests.{ne-eqb}
 use Rattle.picture.specs.Picture.{words}
-use Rattle.picture.specs.Fill.{put}
+use Rattle.picture.specs.Fill.{put, put-nil}
 use Rattle.clarity.specs.declared.Clarity.{Clarity}
 use Rattle.sizes.specs.Sizes.{asked3, lent3, asked9, lent9}
 use Rattle.enlarged.specs.Whole.{scaleOf, singlesOf, bytesOf}
+use Rattle.enlarged.specs.Laws.{scale-length, singles-length, bytes-length}
 use Rattle.whole.specs.Calls.{filled}
+use Rattle.whole.proofs.Sizes.{nine-words}
 use Rattle.palette.specs.Palette.{replacedOf}
-use Rattle.palette.proofs.Laws.{nearest-laws}
+use Rattle.palette.proofs.Laws.{nearest-laws, replaced-length}
 use Rattle.whole_palette.specs.Calls.{ScalesBy, ScalesBy9}
 use Rattle.whole_palette.specs.Claims.{EntryOf, By3, By9, PaletteLaws}
 use Rattle.whole_palette.proofs.Refusals.{in-turn}
@@ -26,6 +29,11 @@ is-written r vs l l′ z e = e ∙ ap (λ (n : ℕ). filled n vs l) z
 is-kept : {E : Type 0} (r : ℕ) (vs l l′ : List E) → (r ≡ 0 → ⊥) → l′ ≡ filled r vs l → l′ ≡ l
 is-kept r vs l l′ d e = e ∙ rw (ne-eqb r 0 d)
 
+-- a list without elements writes nothing
+no-words : {E : Type 0} (vs l : List E) → length vs ≡ 0 → put 0 vs l ≡ l
+no-words [] l e = put-nil 0 l (omega arith)
+no-words (v ∷ vs) l e = absurd (omega arith)
+
 module _ {q : Clarity} {w h : ℕ} {p palette x o : List ℕ} {s : List Float} {b x′ o′ : List ℕ} {s′ : List Float} {b′ : List ℕ} {r : ℕ}
     (c : ScalesBy q w h p palette x o s b x′ o′ s′ b′ r) where
   three : By3 q w h p palette x o s b x′ o′ s′ b′ r
@@ -37,7 +45,7 @@ module _ {q : Clarity} {w h : ℕ} {p palette x o : List ℕ} {s : List Float} {
       singles-now = c .singles-now ∙ ap (λ (l : List ℕ). filled r (singlesOf q w h (words w l)) s) (sym (same z));
       bytes-now = c .bytes-now ∙ ap (λ (l : List ℕ). filled r (bytesOf q w h (words w l)) b) (sym (same z));
     };
-    shows = λ z i j a e. subst (λ (l : List ℕ). EntryOf palette (getD l (j * (3 * w) + i) 0)) (sym (is-written r _ o o′ z (c .output-now)))
+    entries-only = λ z i j a e. subst (λ (l : List ℕ). EntryOf palette (getD l (j * (3 * w) + i) 0)) (sym (is-written r _ o o′ z (c .output-now)))
         (entries-three w h p palette x (fits z) q o i j a e);
     refuses = in-turn q (asked3 w h (w * h) (w * h)) (lent3 (length x) p o s b) palette x r refl (c .refusal-now);
     keeps = λ d. (
@@ -46,8 +54,17 @@ module _ {q : Clarity} {w h : ℕ} {p palette x o : List ℕ} {s : List Float} {
       is-kept r _ s s′ d (c .singles-now),
       is-kept r _ b b′ d (c .bytes-now),
     );
+    nothing = λ z e. (
+      stored z ∙ no-words (replacedOf palette (w * h) p) x (omega (arith, replaced-length palette p (w * h) (fits z .read))),
+      is-written r _ o o′ z (c .output-now) ∙ no-words (scaleOf q w h picture) o (omega (arith, scale-length q w h picture)),
+      is-written r _ s s′ z (c .singles-now) ∙ no-words (singlesOf q w h picture) s (omega (arith, singles-length q w h picture)),
+      is-written r _ b b′ z (c .bytes-now) ∙ no-words (bytesOf q w h picture) b (omega (arith, bytes-length q w h picture)),
+    );
   }
     where
+      picture : ℕ → ℕ → ℕ
+      picture = words w (replacedOf palette (w * h) p)
+
       fits : r ≡ 0 → Ready (w * h) p palette x
       fits z = ready q 2048 w h (w * h) (9 * (w * h)) 0 (8 * (w * h)) p palette x (length o) 0 (length s) (length b) r (c .refusal-now) z
 
@@ -69,7 +86,7 @@ module _ {q : Clarity} {w h : ℕ} {p palette x o m : List ℕ} {s : List Float}
       singles-now = c .singles-now ∙ ap (λ (l : List ℕ). filled r (singlesOf q (3 * w) (3 * h) (again l)) s) (sym (same z));
       bytes-now = c .bytes-now ∙ ap (λ (l : List ℕ). filled r (bytesOf q (3 * w) (3 * h) (again l)) b) (sym (same z));
     };
-    shows = λ z i j a e. subst (λ (l : List ℕ). EntryOf palette (getD l (j * (9 * w) + i) 0)) (sym (is-written r _ o o′ z (c .output-now)))
+    entries-only = λ z i j a e. subst (λ (l : List ℕ). EntryOf palette (getD l (j * (9 * w) + i) 0)) (sym (is-written r _ o o′ z (c .output-now)))
         (entries-nine w h p palette x (fits z) q o i j a e);
     refuses = in-turn q (asked9 w h (w * h) (w * h)) (lent9 (length x) p o m s b) palette x r refl (c .refusal-now);
     keeps = λ d. (
@@ -79,8 +96,21 @@ module _ {q : Clarity} {w h : ℕ} {p palette x o m : List ℕ} {s : List Float}
       is-kept r _ s s′ d (c .singles-now),
       is-kept r _ b b′ d (c .bytes-now),
     );
+    nothing = λ z e. (
+      stored z ∙ no-words (replacedOf palette (w * h) p) x (omega (arith, replaced-length palette p (w * h) (fits z .read))),
+      is-written r _ o o′ z (c .output-now) ∙ no-words (scaleOf q (3 * w) (3 * h) first) o (omega (arith, scale-length q (3 * w) (3 * h) first, nine-words w h)),
+      is-written r _ m m′ z (c .middle-now) ∙ no-words (scaleOf q w h picture) m (omega (arith, scale-length q w h picture)),
+      is-written r _ s s′ z (c .singles-now) ∙ no-words (singlesOf q (3 * w) (3 * h) first) s (omega (arith, singles-length q (3 * w) (3 * h) first, nine-words w h)),
+      is-written r _ b b′ z (c .bytes-now) ∙ no-words (bytesOf q (3 * w) (3 * h) first) b (omega (arith, bytes-length q (3 * w) (3 * h) first, nine-words w h)),
+    );
   }
     where
+      picture : ℕ → ℕ → ℕ
+      picture = words w (replacedOf palette (w * h) p)
+
+      first : ℕ → ℕ → ℕ
+      first = words (3 * w) (scaleOf q w h picture)
+
       again : List ℕ → ℕ → ℕ → ℕ
       again l = words (3 * w) (scaleOf q w h (words w l))
 

@@ -47,20 +47,22 @@ pub record By3 (q : Clarity) (w h : ℕ) (p palette x o : List ℕ) (s : List Fl
   pub replaces : r ≡ 0 → Replaces (w * h) p palette x x′
   -- before enlarging: all that `scale` promises is promised of the replaced picture
   pub enlarges : r ≡ 0 → Scales q w h (take (w * h) x′) o s b o′ s′ b′ r
-  -- so the glass can show every word of the output
-  pub shows : r ≡ 0 → (column row : ℕ) → column < 3 * w → row < 3 * h → EntryOf palette (getD o′ (row * (3 * w) + column) 0)
+  -- so every word of the output is an entry
+  pub entries-only : r ≡ 0 → (column row : ℕ) → column < 3 * w → row < 3 * h → EntryOf palette (getD o′ (row * (3 * w) + column) 0)
   pub refuses : InTurn (refusal3 q w h p o s b) (w * h) palette x r
-  -- a refused call leaves every buffer as it was
+  -- a refused call leaves every buffer as it was, and so does one of a picture that has no pixel
   pub keeps : (r ≡ 0 → ⊥) → (x′ ≡ x) × (o′ ≡ o) × (s′ ≡ s) × (b′ ≡ b)
+  pub nothing : r ≡ 0 → w * h ≡ 0 → (x′ ≡ x) × (o′ ≡ o) × (s′ ≡ s) × (b′ ≡ b)
 
 -- a nine-times call, with the middle m
 pub record By9 (q : Clarity) (w h : ℕ) (p palette x o m : List ℕ) (s : List Float) (b : List ℕ)
     (x′ o′ m′ : List ℕ) (s′ : List Float) (b′ : List ℕ) (r : ℕ) : Type 0 where
   pub replaces : r ≡ 0 → Replaces (w * h) p palette x x′
   pub enlarges : r ≡ 0 → Scales9 q w h (take (w * h) x′) o m s b o′ m′ s′ b′ r
-  pub shows : r ≡ 0 → (column row : ℕ) → column < 9 * w → row < 9 * h → EntryOf palette (getD o′ (row * (9 * w) + column) 0)
+  pub entries-only : r ≡ 0 → (column row : ℕ) → column < 9 * w → row < 9 * h → EntryOf palette (getD o′ (row * (9 * w) + column) 0)
   pub refuses : InTurn (refusal9 q w h p o m s b) (w * h) palette x r
   pub keeps : (r ≡ 0 → ⊥) → (x′ ≡ x) × (o′ ≡ o) × (m′ ≡ m) × (s′ ≡ s) × (b′ ≡ b)
+  pub nothing : r ≡ 0 → w * h ≡ 0 → (x′ ≡ x) × (o′ ≡ o) × (m′ ≡ m) × (s′ ≡ s) × (b′ ≡ b)
 
 pub record PaletteLaws : Type 0 where
   -- no other entry has a smaller N, the lowest place wins a tie, and these two fix the entry; the replaced picture is replaced word by word

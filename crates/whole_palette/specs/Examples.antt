@@ -1,5 +1,5 @@
--- The order of the checks with a palette, at a picture of one pixel: in each list the next line mends what the line before was refused for.
--- Assumes nothing.
+-- The order of the checks with a palette, at pictures of one row: in each list the next line mends at least what the line before was refused
+-- for, and the lines on the number of entries stand side by side. Assumes nothing.
 use mathlib.Core.Path.{_≡_, refl}
 use mathlib.Core.List.{List}
 use Prim.Native.Nat.{ℕ}
@@ -51,13 +51,18 @@ pub record PaletteOrders : Type 0 where
       × (nine Standard 1 1 0 1 81 9 72 72 ≡ Refusal.palette)
       × (nine Standard 1 1 257 1 81 9 72 72 ≡ Refusal.palette)
       × (nine Standard 1 1 256 1 81 9 72 72 ≡ Refusal.none)
+      × (nine Standard 1 1 1 1 81 9 72 72 ≡ Refusal.none)
   -- a picture of no columns is refused 14 all the same, and is taken with a lawful palette
-  pub empty-picture-order : (three Standard 0 0 0 0 0 0 0 ≡ Refusal.palette) × (three Standard 0 0 1 0 0 0 0 ≡ Refusal.none)
+  pub empty-picture-order : (three Standard 0 0 0 0 0 0 0 ≡ Refusal.palette)
+      × (three Standard 0 0 257 0 0 0 0 ≡ Refusal.palette)
+      × (three Standard 0 0 1 0 0 0 0 ≡ Refusal.none)
+      × (nine Standard 0 0 0 0 0 0 0 0 ≡ Refusal.palette)
+      × (nine Standard 0 0 1 0 0 0 0 0 ≡ Refusal.none)
 
 pub palette-orders : PaletteOrders
 unfolding lt refusalPalette
 palette-orders = record {
   scale-palette-order = (refl, refl, refl, refl, refl, refl, refl, refl, refl, refl);
-  scale9x-palette-order = (refl, refl, refl, refl, refl, refl, refl, refl, refl);
-  empty-picture-order = (refl, refl);
+  scale9x-palette-order = (refl, refl, refl, refl, refl, refl, refl, refl, refl, refl);
+  empty-picture-order = (refl, refl, refl, refl, refl);
 }

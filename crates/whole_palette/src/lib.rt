@@ -12,7 +12,7 @@ ghost use mathlib.Core.Path.{_≡_};
 ghost use Rattle.whole_palette.specs.Calls.{ScalesBy, ScalesBy9, refusalPalette};
 
 // The most entries that a palette has.
-pub const ENTRIES: usize = 256;
+const ENTRIES: usize = 256;
 
 // The number that turns a call away, or 0: f is that of its sides, buffers and setting, and the palette is looked at last.
 fn refuse_palette(f: u32, entries: usize) -> u32
