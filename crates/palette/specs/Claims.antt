@@ -13,9 +13,9 @@ pub record Nearest (palette : List ℕ) (word r : ℕ) : Type 0 where
   pub place : ℕ
   pub inside : place < length palette
   pub entry : getD palette place 0 ≡ r
-  -- no other entry has a smaller N
+  -- none has a smaller N
   pub least : (j : ℕ) → j < length palette → nearnessOf r word ≤ nearnessOf (getD palette j 0) word
-  -- the lowest place wins a tie: each entry before it has a larger N
+  -- it is the first of its equals: each entry before it has a larger N
   pub lowest : (j : ℕ) → j < place → nearnessOf r word < nearnessOf (getD palette j 0) word
 
 pub record NearestLaws : Type 0 where

@@ -15,9 +15,9 @@ use Rattle.whole_palette.specs.Calls.{ScalesBy, ScalesBy9}
 
 -- the picture p of n words, replaced in the lent buffer, x before and x′ after
 pub record Replaces (n : ℕ) (p palette x x′ : List ℕ) : Type 0 where
-  -- each picture word is replaced by the nearest entry, top byte and all
+  -- at each place stands the whole word of the entry that is nearest to the picture's
   pub each : (i : ℕ) → i < n → Nearest palette (getD p i 0) (getD x′ i 0)
-  -- the replaced picture fills n words of the buffer, and those past it stay
+  -- no other word of the buffer is written
   pub long : length x′ ≡ length x
   pub past : drop n x′ ≡ drop n x
 
@@ -25,14 +25,14 @@ pub record Replaces (n : ℕ) (p palette x x′ : List ℕ) : Type 0 where
 pub record InTurn (f n : ℕ) (palette x : List ℕ) (r : ℕ) : Type 0 where
   -- 1, 2, 3 and 4 come first
   pub first : (f ≡ Refusal.none → ⊥) → (f ≡ Refusal.clarity → ⊥) → r ≡ f
-  -- a buffer of less than n words is refused 4
+  -- then a buffer of the replaced picture that is too short, by 4 too
   pub short : (f ≡ Refusal.none) ⊎ (f ≡ Refusal.clarity) → length x < n → r ≡ 4
-  -- then 13
+  -- then the setting, by 13
   pub setting : f ≡ Refusal.clarity → n ≤ length x → r ≡ 13
-  -- a palette that is empty or over 256 is refused 14, after 4 and 13
+  -- last the palette, by 14: one without entries, and one of more than 256
   pub empty : f ≡ Refusal.none → n ≤ length x → length palette ≡ 0 → r ≡ 14
   pub over : f ≡ Refusal.none → n ≤ length x → 256 < length palette → r ≡ 14
-  -- and nothing else is refused
+  -- every other call is taken
   pub taken : f ≡ Refusal.none → n ≤ length x → 0 < length palette → length palette ≤ 256 → r ≡ 0
 
 -- a word of the palette, top byte and all
@@ -45,7 +45,7 @@ pub record EntryOf (palette : List ℕ) (word : ℕ) : Type 0 where
 pub record By3 (q : Clarity) (w h : ℕ) (p palette x o : List ℕ) (s : List Float) (b : List ℕ)
     (x′ o′ : List ℕ) (s′ : List Float) (b′ : List ℕ) (r : ℕ) : Type 0 where
   pub replaces : r ≡ 0 → Replaces (w * h) p palette x x′
-  -- before enlarging: all that `scale` promises is promised of the replaced picture
+  -- what is enlarged is the replaced picture: the call is one of `scale` on it, with all that this promises
   pub enlarges : r ≡ 0 → Scales q w h (take (w * h) x′) o s b o′ s′ b′ r
   -- so every word of the output is an entry
   pub entries-only : r ≡ 0 → (column row : ℕ) → column < 3 * w → row < 3 * h → EntryOf palette (getD o′ (row * (3 * w) + column) 0)
@@ -65,7 +65,8 @@ pub record By9 (q : Clarity) (w h : ℕ) (p palette x o m : List ℕ) (s : List 
   pub nothing : r ≡ 0 → w * h ≡ 0 → (x′ ≡ x) × (o′ ≡ o) × (m′ ≡ m) × (s′ ≡ s) × (b′ ≡ b)
 
 pub record PaletteLaws : Type 0 where
-  -- no other entry has a smaller N, the lowest place wins a tie, and these two fix the entry; the replaced picture is replaced word by word
+  -- of the entries: none has a smaller N than the nearest, which is the first of its equals, and no other one is so; of the replaced picture:
+  -- each word
   pub entries : NearestLaws
   pub three : {q : Clarity} {w h : ℕ} {p palette x o : List ℕ} {s : List Float} {b x′ o′ : List ℕ} {s′ : List Float} {b′ : List ℕ} {r : ℕ}
       → ScalesBy q w h p palette x o s b x′ o′ s′ b′ r → By3 q w h p palette x o s b x′ o′ s′ b′ r
