@@ -1,5 +1,5 @@
 -- What `specs/Claims.antt` says of whole pictures. Assumes nothing.
-use mathlib.Core.Path.{_≡_, ap, _∙_}
+use mathlib.Core.Path.{ap, _∙_}
 use mathlib.Core.Bool.{Bool, _||_, cond}
 use mathlib.Core.List.{List}
 use Prim.Native.Nat.{ℕ, _*_}
@@ -12,7 +12,7 @@ use Rattle.clarity.specs.declared.Clarity.{Clarity}
 use Rattle.clarity.specs.Clarity.{lawfulOf}
 use Rattle.sizes.specs.declared.Asked.{Asked}
 use Rattle.sizes.specs.declared.Lengths.{Lengths}
-use Rattle.sizes.specs.Sizes.{refusalOf, asked3, asked9, lent3, lent9}
+use Rattle.sizes.specs.Sizes.{asked3, asked9, lent3, lent9}
 use Rattle.enlarged.specs.Whole.{scaleOf, singlesOf, bytesOf}
 use Rattle.whole.specs.Calls.{filled, Scales, Scales9}
 use Rattle.enlarged.specs.Laws.{scale-block, scale-standard, singles-standard, bytes-standard}

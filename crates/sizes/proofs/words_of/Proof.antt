@@ -1,5 +1,4 @@
 -- `sizes::words_of` meets its contract. Assumes nothing.
-use mathlib.Core.Path.{_∙_}
 use borrow.Author.Needs.{needs}
 use Rattle.sizes.proofs.words_of.Statement.{statement}
 use Rattle.sizes.proofs.words_of.Tie as tie
