@@ -1,6 +1,6 @@
 /*
  * panel: enlarges small pictures three or nine times by ScaleFX, at once or block by block as they change.
- * Link with libpanel.a (rt staticlib panel, or the archive's lib/). The library uses no heap and keeps no state of its
+ * Link with libpanel.a (./build library, or the archive's lib/). The library uses no heap and keeps no state of its
  * own: all that it reads and writes is lent by the caller, for the time of the call, so calls on different buffers may
  * run at the same time. PANEL_STACK_BYTES below is the stack to keep free.
  *

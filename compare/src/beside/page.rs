@@ -110,9 +110,9 @@ fn wrong(random: &mut Random, program: &Path, file: &[u8]) -> Option<String> {
     reader.or_else(|| wrong_program(program, file))
 }
 
-/// The built program: `PANEL_PAGE3X`, or the repository's target/bin/page3x.
+/// The built program: `PANEL_PAGE3X`, or the repository's crates/page3x/out/page3x.
 fn program() -> PathBuf {
-    let built = concat!(env!("CARGO_MANIFEST_DIR"), "/../target/bin/page3x");
+    let built = concat!(env!("CARGO_MANIFEST_DIR"), "/../crates/page3x/out/page3x");
     std::env::var("PANEL_PAGE3X").unwrap_or_else(|_| built.to_string()).into()
 }
 

@@ -1,5 +1,7 @@
 // Which corners of a pixel are active at its junctions, of the weights around it, with flags where the source has the singles 0.0 and 1.0.
 // `specs/Active.antt` is what the code computes.
+#![tactic(auto)]
+
 ghost use Rattle.std.specs.Prelude.{◌≡◌};
 ghost use Rattle.active_corners.specs.Active.{at0, at1, at2, at3, dominance_of, vote_of, inject_of, suppress_of, weightless_of};
 ghost use Rattle.active_corners.specs.Active.{active_corners};
@@ -7,18 +9,18 @@ ghost use Rattle.active_corners.specs.Active.{active_corners};
 use metric::Weights;
 
 // The source's [f32; 3]: a corner's weight, between those before and after it around its pixel.
-#[derive(Drop)]
+#[derive(Clone, Copy)]
 pub struct Triple(pub f32, pub f32, pub f32);
 
 // A corner at its junction: its vote, and whether it is active before the suppression.
-#[derive(Drop)]
+#[derive(Clone, Copy)]
 pub struct Corner {
     pub vote: bool,
     pub active: bool,
 }
 
 // Which corners of a pixel are active, after the suppression.
-#[derive(Drop)]
+#[derive(Clone, Copy)]
 pub struct Active {
     pub a0: bool,
     pub a1: bool,

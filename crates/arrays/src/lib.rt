@@ -1,5 +1,7 @@
 // Headers and items as the arrays of numbers that the C face takes: w, h, left, top, width and height of the lock, and kind and pattern of
 // the setting of clarity; column, row and word.
+#![tactic(auto)]
+
 ghost use Rattle.std.specs.Prelude.{◌≡◌, map, ◌≤◌, T, length};
 ghost use Rattle.std.specs.Float.{binary32};
 ghost use Rattle.std.specs.Float.Ieee.{to_bits};

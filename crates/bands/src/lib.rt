@@ -1,5 +1,7 @@
 // A band, some rows that a tile has room for: its stale blocks drawn tile by tile, all of them or the first n in row order. The screen is
 // known by its number; how its blocks are drawn is the tiles'.
+#![tactic(auto)]
+
 ghost use Rattle.std.specs.Prelude.{◌+◌, ◌*◌, ◌<◌, ◌≤◌, length};
 ghost use Rattle.machine.specs.Lent.{Lent};
 ghost use Rattle.screens.specs.Screens.{screen_of};

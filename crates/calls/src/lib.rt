@@ -1,6 +1,8 @@
 // The opening, the lock and the show of a session, once for both screens: each takes the scale, the number of its screen, and the header in
 // place of a session. The other calls are in `painted` and `refreshed`. `machine/specs/Calls.antt` says what each leaves and answers. A
 // session type hands its own number in, and wraps the header that an opening and a lock answer.
+#![tactic(auto)]
+
 ghost use Rattle.std.specs.Prelude.{◌≡◌, ◌++◌, ◌≤◌, length, drop, replicate};
 ghost use Rattle.machine.specs.Calls.{Opens, Shows, Locks};
 ghost use Rattle.machine.specs.Screen.{block_words};
@@ -12,14 +14,14 @@ use marks::mark_run;
 use refusals::{refuse_all, refuse_lock, refuse_show};
 use screens::{read_block, side, words};
 
-#[derive(Drop)]
+#[derive(Clone, Copy)]
 pub struct Opened {
     pub refusal: u32,
     pub header: Header,
     pub stale: u32,
 }
 
-#[derive(Drop)]
+#[derive(Clone, Copy)]
 pub struct Locked {
     pub refusal: u32,
     pub header: Header,
@@ -47,9 +49,9 @@ pub fn open(
     output: &mut [u32],
     marks: &mut [u8],
 ) -> Opened
-    ensures { Opens (screen_of scale) w h clarity picture.now output.entry.now marks.old
+    ensures { Opens (screen_of scale) w h clarity picture.now output.old marks.old
         (record {
-          output = output.exit.now;
+          output = output.new;
           marks = marks.new;
           refusal = result.refusal;
           header = result.header;

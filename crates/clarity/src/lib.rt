@@ -1,10 +1,12 @@
 // A panel type's clarity: how strong an edge may be before it is left as it is. `specs/Clarity.antt` says which settings are lawful and
 // what the numbers of a C caller stand for; `weight/specs/Weight.antt` says what a setting does.
+#![tactic(auto)]
+
 ghost use Rattle.std.specs.Prelude.{◌≡◌};
 ghost use Rattle.clarity.specs.Clarity.{lawful_single, lawful_of, setting_of, clarity_of, kind_of};
 
 // The source's threshold, another in its place, or another behind a gate.
-#[derive(Drop)]
+#[derive(Clone, Copy)]
 pub enum Clarity {
     Standard,
     Threshold(f32),

@@ -1,4 +1,6 @@
 // How near two colours are: the whole number N of request 8, in 32 bits.
+#![tactic(auto)]
+
 ghost use Rattle.std.specs.Prelude.{◌≡◌, ◌*◌, ◌≤◌};
 ghost use Rattle.colour.specs.Nearness.{gap, nearness_of, squared};
 ghost use Rattle.colour.specs.Weighed.{weighed_of};

@@ -1,4 +1,6 @@
 // A run of the picture's words, each stored three times side by side in three rows of an output: blocks that no tag alters.
+#![tactic(auto)]
+
 ghost use Rattle.std.specs.Prelude.{◌≡◌, [], ◌∷◌, ◌+◌, ◌*◌, ◌<◌, ◌≤◌, length, get_or, set};
 ghost use Rattle.picture.specs.Fill.{put};
 ghost use Rattle.block.specs.Copies.{thrice, thrice_below};

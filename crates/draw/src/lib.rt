@@ -1,5 +1,7 @@
 // The first n stale blocks drawn, in row order. Rows with nothing stale are passed over; from a row with a stale block on, as many rows as
 // a tile has are drawn as a band. The screen is known by its number; how a band is drawn is that of `bands`.
+#![tactic(auto)]
+
 ghost use Rattle.std.specs.Prelude.{◌*◌, length};
 ghost use Rattle.machine.specs.Lent.{Lent};
 ghost use Rattle.screens.specs.Screens.{screen_of};

@@ -1,86 +1,117 @@
 // Nine-times sessions at the edges of docs/RULES.md: each line is what a call answered, or words of the picture after it.
+#![tactic(auto)]
+
 use clarity::Clarity;
 use header::{Header, Rectangle};
 use lines::line;
 use paints::{Paint, none};
 use session3x::Session3x;
 use session9x::Session9x;
+use std::io;
 
-fn refresh(session: Session9x, picture: &[u32], output: &mut [u32], marks: &mut [u8], n: u32) {
+fn refresh(
+    rt: &impl Print,
+    session: Session9x,
+    picture: &[u32],
+    output: &mut [u32],
+    marks: &mut [u8],
+    n: u32,
+) -> io::Result<()> {
     let r = session.refresh(picture, output, marks, n);
-    line(b"refresh", r.refusal, r.drawn, r.left);
+    line(rt, "refresh", r.refusal, r.drawn, r.left)
 }
 
 fn paint(
+    rt: &impl Print,
     session: Session9x,
     picture: &mut [u32],
     marks: &mut [u8],
     column: u32,
     row: u32,
     word: u32,
-) {
+) -> io::Result<()> {
     let p = session.paint(picture, marks, column, row, word);
-    line(b"paint", p.refusal, p.changed, p.stale);
+    line(rt, "paint", p.refusal, p.changed, p.stale)
 }
 
 // The refusal, and the first and the middle word of a block's 81.
-fn show(session: Session9x, output: &[u32], marks: &[u8], bx: u32, by: u32) {
+fn show(
+    rt: &impl Print,
+    session: Session9x,
+    output: &[u32],
+    marks: &[u8],
+    bx: u32,
+    by: u32,
+) -> io::Result<()> {
     let s = session.show(output, marks, bx, by);
-    line(b"show", s.refusal, s.words[0], s.words[40]);
+    line(rt, "show", s.refusal, s.words[0], s.words[40])
 }
 
-fn list(session: Session9x, picture: &mut [u32], marks: &mut [u8], a: [Paint; 64], n: u32) {
+fn list(
+    rt: &impl Print,
+    session: Session9x,
+    picture: &mut [u32],
+    marks: &mut [u8],
+    a: [Paint; 64],
+    n: u32,
+) -> io::Result<()> {
     let p = session.paint_gathered(picture, marks, a, n as usize);
-    line(b"list", p.refusal, p.stale, n);
+    line(rt, "list", p.refusal, p.stale, n)
 }
 
 // On a picture that is drawn: a paint outside, one of an equal word, and one of a word that differs in its top byte alone; shows of a
 // block that it made stale, of one beside those, and of one outside.
-fn beside(session: Session9x, picture: &mut [u32], output: &[u32], marks: &mut [u8]) {
-    paint(session, picture, marks, 32, 0, 1);
-    paint(session, picture, marks, 10, 10, 1);
-    paint(session, picture, marks, 10, 10, 16777217);
-    show(session, output, marks, 10, 10);
-    show(session, output, marks, 19, 10);
-    show(session, output, marks, 0, 32);
+fn beside(
+    rt: &impl Print,
+    session: Session9x,
+    picture: &mut [u32],
+    output: &[u32],
+    marks: &mut [u8],
+) -> io::Result<()> {
+    paint(rt, session, picture, marks, 32, 0, 1)?;
+    paint(rt, session, picture, marks, 10, 10, 1)?;
+    paint(rt, session, picture, marks, 10, 10, 16777217)?;
+    show(rt, session, output, marks, 10, 10)?;
+    show(rt, session, output, marks, 19, 10)?;
+    show(rt, session, output, marks, 0, 32)
 }
 
 // A picture of 32 by 32: nothing is drawn, and then all; paints away from borders and at two corners, in slices and at once.
-fn boxes() {
+fn boxes(rt: &impl Print) -> io::Result<()> {
     let mut picture = [0u32; 1024];
     let mut output = [7u32; 82944];
     let mut marks = [0u8; 1024];
     let o = Session9x::open(32, 32, Clarity::Standard, &picture, &mut output, &mut marks);
     let s = o.session;
-    line(b"open", o.refusal, s.header.w, o.stale);
-    show(s, &output, &marks, 0, 0);
-    refresh(s, &picture, &mut output, &mut marks, 0);
-    refresh(s, &picture, &mut output, &mut marks, 4294967295);
-    paint(s, &mut picture, &mut marks, 10, 10, 1);
-    refresh(s, &picture, &mut output, &mut marks, 200);
-    refresh(s, &picture, &mut output, &mut marks, 200);
-    paint(s, &mut picture, &mut marks, 0, 0, 1);
-    refresh(s, &picture, &mut output, &mut marks, 1024);
-    paint(s, &mut picture, &mut marks, 31, 31, 1);
-    refresh(s, &picture, &mut output, &mut marks, 1024);
-    beside(s, &mut picture, &output, &mut marks);
+    line(rt, "open", o.refusal, s.header.w, o.stale)?;
+    show(rt, s, &output, &marks, 0, 0)?;
+    refresh(rt, s, &picture, &mut output, &mut marks, 0)?;
+    refresh(rt, s, &picture, &mut output, &mut marks, 4294967295)?;
+    paint(rt, s, &mut picture, &mut marks, 10, 10, 1)?;
+    refresh(rt, s, &picture, &mut output, &mut marks, 200)?;
+    refresh(rt, s, &picture, &mut output, &mut marks, 200)?;
+    paint(rt, s, &mut picture, &mut marks, 0, 0, 1)?;
+    refresh(rt, s, &picture, &mut output, &mut marks, 1024)?;
+    paint(rt, s, &mut picture, &mut marks, 31, 31, 1)?;
+    refresh(rt, s, &picture, &mut output, &mut marks, 1024)?;
+    beside(rt, s, &mut picture, &output, &mut marks)
 }
 
 // A side at the limit is taken, and one past it is refused before any buffer is looked at.
-fn sides() {
+fn sides(rt: &impl Print) -> io::Result<()> {
     let picture = [5u32; 682];
     let mut output = [7u32; 55242];
     let mut marks = [3u8; 682];
     let o = Session9x::open(682, 1, Clarity::Standard, &picture, &mut output, &mut marks);
-    line(b"open", o.refusal, o.session.header.w, o.stale);
+    line(rt, "open", o.refusal, o.session.header.w, o.stale)?;
     let p = Session9x::open(683, 1, Clarity::Standard, &picture, &mut output, &mut marks);
-    line(b"open", p.refusal, p.session.header.w, p.stale);
+    line(rt, "open", p.refusal, p.session.header.w, p.stale)?;
     let q = Session9x::open(1, 683, Clarity::Standard, &picture, &mut output, &mut marks);
-    line(b"open", q.refusal, q.session.header.w, q.stale);
+    line(rt, "open", q.refusal, q.session.header.w, q.stale)
 }
 
 // A lock and lists of paints on a picture of 4 by 3: 64 items are looked at, and of 65 none.
-fn lists() {
+fn lists(rt: &impl Print) -> io::Result<()> {
     let mut picture = [1u32; 12];
     let mut output = [7u32; 972];
     let mut marks = [3u8; 12];
@@ -92,14 +123,15 @@ fn lists() {
         height: 2,
     });
     line(
-        b"lock",
+        rt,
+        "lock",
         l.refusal,
         l.session.header.w,
         l.session.header.lock.left,
-    );
+    )?;
     let s = l.session;
-    refresh(s, &picture, &mut output, &mut marks, 12);
-    paint(s, &mut picture, &mut marks, 3, 2, 5);
+    refresh(rt, s, &picture, &mut output, &mut marks, 12)?;
+    paint(rt, s, &mut picture, &mut marks, 3, 2, 5)?;
     let mut a = none();
     a[0] = Paint {
         column: 0,
@@ -111,10 +143,10 @@ fn lists() {
         row: 1,
         word: 5,
     };
-    list(s, &mut picture, &mut marks, a, 2);
-    list(s, &mut picture, &mut marks, a, 1);
-    list(s, &mut picture, &mut marks, a, 65);
-    line(b"words", picture[0], picture[6], 0);
+    list(rt, s, &mut picture, &mut marks, a, 2)?;
+    list(rt, s, &mut picture, &mut marks, a, 1)?;
+    list(rt, s, &mut picture, &mut marks, a, 65)?;
+    line(rt, "words", picture[0], picture[6], 0)?;
     let t = s.lock(Rectangle {
         left: 3,
         top: 1,
@@ -122,15 +154,16 @@ fn lists() {
         height: 2,
     });
     line(
-        b"lock",
+        rt,
+        "lock",
         t.refusal,
         t.session.header.w,
         t.session.header.lock.left,
-    );
+    )
 }
 
 // A header of the three-times session, lent to the nine-times one: its output is too short; one that is long enough is drawn as any other.
-fn other() {
+fn other(rt: &impl Print) -> io::Result<()> {
     let picture = [9u32; 4];
     let mut short = [7u32; 36];
     let mut output = [7u32; 324];
@@ -139,13 +172,13 @@ fn other() {
     let three = o.session;
     let header = three.header;
     let s = Session9x { header };
-    refresh(s, &picture, &mut short, &mut marks, 4);
-    refresh(s, &picture, &mut output, &mut marks, 4);
-    show(s, &output, &marks, 1, 1);
+    refresh(rt, s, &picture, &mut short, &mut marks, 4)?;
+    refresh(rt, s, &picture, &mut output, &mut marks, 4)?;
+    show(rt, s, &output, &marks, 1, 1)
 }
 
 // Headers that no call answered: sides past the limit that the other screen has, and a setting that is not lawful.
-fn wild() {
+fn wild(rt: &impl Print) -> io::Result<()> {
     let picture = [0u32; 4];
     let mut output = [7u32; 324];
     let mut marks = [0u8; 4];
@@ -163,7 +196,7 @@ fn wild() {
             clarity: Clarity::Standard,
         },
     };
-    refresh(wide, &picture, &mut output, &mut marks, 4);
+    refresh(rt, wide, &picture, &mut output, &mut marks, 4)?;
     let odd = Session9x {
         header: Header {
             w: 2,
@@ -172,15 +205,15 @@ fn wild() {
             clarity: Clarity::Gated(0.0),
         },
     };
-    refresh(odd, &picture, &mut output, &mut marks, 4);
-    show(odd, &output, &marks, 0, 0);
-    line(b"kept", output[0], output[323], 0);
+    refresh(rt, odd, &picture, &mut output, &mut marks, 4)?;
+    show(rt, odd, &output, &marks, 0, 0)?;
+    line(rt, "kept", output[0], output[323], 0)
 }
 
-fn main() {
-    boxes();
-    sides();
-    lists();
-    other();
-    wild();
+fn main(rt: HostRuntime) -> io::Result<()> {
+    boxes(&rt)?;
+    sides(&rt)?;
+    lists(&rt)?;
+    other(&rt)?;
+    wild(&rt)
 }

@@ -1,5 +1,7 @@
 // A whole picture enlarged three times at a setting: the passes over all of it, and its blocks stored side by side. Its caller has shown
 // that the buffers are long enough.
+#![tactic(auto)]
+
 ghost use Rattle.std.specs.Prelude.{length};
 ghost use Rattle.enlarged.specs.Passes.{Fits, Enlarged};
 

@@ -1,5 +1,7 @@
 // What the C face does for a session, once for both screens: the header and the items of a list come as the arrays of numbers that `arrays`
 // reads and writes. The screen's number is handed in; the C calls themselves are those of `panel`.
+#![tactic(auto)]
+
 ghost use Rattle.std.specs.Prelude.{◌≡◌, map, ◌≤◌, T, length, replicate};
 ghost use Rattle.clarity.specs.Clarity.{lawful_of, setting_of};
 ghost use Rattle.paints.specs.Paints.{gathered};
@@ -28,9 +30,9 @@ pub fn open(
     stale: &mut u32,
 ) -> u32
     ensures { Opens (screen_of scale) w h (setting_of clarity threshold)
-        picture.now output.entry.now marks.old
+        picture.now output.old marks.old
         (record {
-          output = output.exit.now;
+          output = output.new;
           marks = marks.new;
           refusal = result;
           header = header_of header.new;
@@ -57,9 +59,9 @@ pub fn paint(
     stale: &mut u32,
 ) -> u32
     ensures { Paints (screen_of scale) (header_of header.now)
-        picture.entry.now marks.old column row word
+        picture.old marks.old column row word
         (record {
-          picture = picture.exit.now;
+          picture = picture.new;
           marks = marks.new;
           refusal = result;
           changed = changed.new;
@@ -83,9 +85,9 @@ pub fn paint_list(
     stale: &mut u32,
 ) -> u32
     ensures { PaintLists (screen_of scale) (header_of header.now)
-        picture.entry.now marks.old (map paint_of items.now)
+        picture.old marks.old (map paint_of items.now)
         (record {
-          picture = picture.exit.now;
+          picture = picture.new;
           marks = marks.new;
           refusal = result;
           stale = stale.new;
@@ -111,9 +113,9 @@ pub fn refresh(
     left: &mut u32,
 ) -> u32
     ensures { Refreshes (screen_of scale) (header_of header.now)
-        picture.now output.entry.now marks.old n
+        picture.now output.old marks.old n
         (record {
-          output = output.exit.now;
+          output = output.new;
           marks = marks.new;
           refusal = result;
           drawn = drawn.new;

@@ -1,6 +1,8 @@
 // The passes of the metrics and the weights over a rectangle of pixels: each reads its neighbours' words or records at clamped places of a
 // lent buffer and writes one record a pixel, row by row. The whole picture and the rectangles round a tile are the same passes on other
 // rectangles.
+#![tactic(auto)]
+
 ghost use Rattle.std.specs.Prelude.{◌≡◌, ◌+◌, ◌*◌, ◌<◌, ◌≤◌, length, take};
 ghost use Rattle.picture.specs.Picture.{words};
 ghost use Rattle.picture.specs.Fill.{put};

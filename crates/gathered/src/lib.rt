@@ -1,5 +1,6 @@
-// A list of paints walked once, into an array. The prover covers no function that has a `&[Paint]`: `gather` is the one that walks the list,
-// proved by hand, and what it copies into an array is then read by covered code.
+// A list of paints walked once, into an array: what the calls that store a list read is the array.
+#![tactic(auto)]
+
 ghost use Rattle.std.specs.Prelude.{◌≡◌, ◌≤◌, length};
 ghost use Rattle.paints.specs.Paints.{gathered};
 

@@ -1,4 +1,6 @@
 // The records that a buffer keeps for a rectangle of the picture, four elements each, row by row.
+#![tactic(auto)]
+
 ghost use Rattle.std.specs.Prelude.{◌≡◌, ◌+◌, ◌-◌, ◌*◌, ◌^◌, ◌<◌, ◌≤◌, [], ◌∷◌, length};
 ghost use Rattle.picture.specs.Picture.{words};
 ghost use Rattle.picture.specs.Fill.{put};
@@ -12,7 +14,7 @@ use tag::Tags;
 pub mod place;
 
 // A rectangle of the picture: its first column and row, its columns and rows.
-#[derive(Drop)]
+#[derive(Clone, Copy)]
 pub struct Grid {
     pub x0: u32,
     pub y0: u32,

@@ -16,7 +16,7 @@ fn more(p: u32, d: u32, n: u32) -> u32
 }
 
 // A place with the one before and the one after it.
-#[derive(Drop)]
+#[derive(Clone, Copy)]
 pub struct Three {
     pub before: u32,
     pub at: u32,
@@ -36,7 +36,7 @@ pub fn three_at(p: u32, n: u32) -> Three
 }
 
 // A place with the three before and the three after it.
-#[derive(Drop)]
+#[derive(Clone, Copy)]
 pub struct Seven {
     pub before3: u32,
     pub before2: u32,

@@ -1,6 +1,8 @@
 // A session's header, one thing that every call but the opening is lent: the picture's width and height, one locked rectangle, the lock,
 // and the setting of clarity that blocks are drawn by. `specs/Header.antt` says what a lock holds and when a rectangle reaches past the
 // picture.
+#![tactic(auto)]
+
 ghost use Rattle.std.specs.Prelude.{◌≡◌, ◌+◌};
 ghost use Rattle.header.specs.Header.{locked, past, fresh, with_lock, no_header};
 
@@ -8,7 +10,7 @@ use clarity::Clarity;
 
 // A rectangle of the picture: its first column and row, its columns and rows. As a lock of width or height 0 it locks nothing, whatever
 // the other three are.
-#[derive(Drop)]
+#[derive(Clone, Copy)]
 pub struct Rectangle {
     pub left: u32,
     pub top: u32,
@@ -16,7 +18,7 @@ pub struct Rectangle {
     pub height: u32,
 }
 
-#[derive(Drop)]
+#[derive(Clone, Copy)]
 pub struct Header {
     pub w: u32,
     pub h: u32,

@@ -1,4 +1,6 @@
 // The whole number nearest the root of a whole number w from 2 ^ 46 to 2 ^ 48 - 2 ^ 24: guessed, and certified by comparing squares.
+#![tactic(auto)]
+
 ghost use Rattle.std.specs.Prelude.{◌+◌, ◌-◌, ◌*◌, ◌/◌, ◌%◌, ◌^◌, ◌≤◌, ◌<◌};
 ghost use Rattle.integer_root.specs.Near.{Near};
 

@@ -1,6 +1,8 @@
 // Section 4: the junctions of a pixel, `arbitrate_junctions` of scalefx.rs, with flags where the source
 // has the singles 0.0 and 1.0. `specs/Junction.antt` is the source, `specs/Flags.antt` what the code
 // computes, and `specs/Same.antt` shows that the two give the same numbers.
+#![tactic(auto)]
+
 ghost use Rattle.std.specs.Prelude.{◌≡◌, ◌≤◌};
 ghost use Rattle.junction.specs.Junction.{arbitrate_junctions};
 ghost use Rattle.junction.specs.Flags.{bit, condition_of, number_of, numbers_of};
@@ -10,7 +12,7 @@ use metric::{Metric, Pair, Weights};
 use single::{max, min};
 
 // The junction numbers of a pixel's corners: active + 2 horizontal + 4 vertical + 8 orientation.
-#[derive(Drop)]
+#[derive(Clone, Copy)]
 pub struct Junctions {
     pub n0: u8,
     pub n1: u8,

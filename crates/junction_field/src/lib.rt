@@ -1,5 +1,7 @@
 // The pass of the junctions over a rectangle of pixels: it reads the metrics and the weights round each pixel at clamped places of lent
 // buffers and writes four numbers a pixel, row by row.
+#![tactic(auto)]
+
 ghost use Rattle.std.specs.Prelude.{◌≡◌, ◌+◌, ◌*◌, ◌≤◌, length};
 ghost use Rattle.picture.specs.Fill.{put};
 ghost use Rattle.junction.specs.Junction.{junctions};

@@ -1,6 +1,8 @@
 // The four corners of a pixel in one word, corner i in byte i; in a word of flags each byte is 0 or 1.
 // What is done to a word is done to the four corners at once. Bytes are moved by 256, 65536 and 16777216, which are 2 ^ 8, 2 ^ 16 and
 // 2 ^ 24: compiled code shifts and masks.
+#![tactic(auto)]
+
 ghost use Rattle.std.specs.Prelude.{◌≡◌};
 ghost use Rattle.lanes.specs.Lanes.{word_of, across, down, opposite, beside, above, own, after, choose};
 
@@ -10,7 +12,7 @@ use junction::Junctions;
 pub const ONES: u32 = 0x01010101;
 
 // A word for the horizontal edges, and one for the vertical ones.
-#[derive(Drop)]
+#[derive(Clone, Copy)]
 pub struct Pair {
     pub h: u32,
     pub v: u32,

@@ -1,5 +1,7 @@
 // The levels of `trace_edges`, each for the four corners at once, and what those of two and three pixels away give to the tags. A junction
 // number is active + 2 horizontal + 4 vertical + 8 orientation: of a word x of numbers, `x / 2 & ONES` are the horizontal flags.
+#![tactic(auto)]
+
 ghost use Rattle.std.specs.Prelude.{◌≡◌};
 ghost use Rattle.tag.specs.Words.{around_of, level2_of, level3_of, level4_near, level4_of, level5_of, level6_of};
 ghost use Rattle.tag.specs.Words.{far_corners, far_mids, far_of, nothing};

@@ -1,5 +1,7 @@
 // The marks: a byte for each block, 0 for not stale and any other for stale. They are counted, searched for runs of stale blocks, set
 // round a position and cleared. Nothing here knows how a block is drawn, nor how far a paint reaches.
+#![tactic(auto)]
+
 ghost use Rattle.std.specs.Prelude.{◌≡◌, [], ◌∷◌, ◌+◌, ◌*◌, ◌<◌, ◌≤◌, length, get_or};
 ghost use Rattle.machine.specs.Lists.{count, stamp, set_all};
 ghost use Rattle.machine.specs.Calls.{is_stale};

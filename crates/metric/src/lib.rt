@@ -1,5 +1,7 @@
 // Distances and metrics: `color_distance`, `unpack_norm` and `compute_metrics` of scalefx.rs, and the record of the weights that the next
 // pass makes of them. Each operation is rounded once, in the order in which the source writes it.
+#![tactic(auto)]
+
 ghost use Rattle.std.specs.Prelude.{◌≡◌, cond, ◌%◌, ◌^◌, ◌≤◌, eqb};
 ghost use Rattle.channels.specs.Channels.{red_of, green_of, blue_of};
 ghost use Rattle.metric.specs.Distance.{norm, distance_of};
@@ -8,7 +10,7 @@ ghost use Rattle.metric.specs.Metric.{metric_of};
 use channels::{blue, green, red};
 
 // A word's channels, each from 0 to 1.
-#[derive(Drop)]
+#[derive(Clone, Copy)]
 struct Rgb {
     r: f32,
     g: f32,
@@ -66,7 +68,7 @@ pub fn color_distance(p: u32, q: u32) -> f32
 }
 
 // A pixel's metric: its distances to top-left, top, top-right and right.
-#[derive(Drop)]
+#[derive(Clone, Copy)]
 pub struct Metric {
     pub tl: f32,
     pub t: f32,
@@ -92,7 +94,7 @@ fn distance_by(c: u32, q: u32, o: u32, d: f32) -> f32
 }
 
 // Two words and their distance, kept for the pixels that follow.
-#[derive(Drop)]
+#[derive(Clone, Copy)]
 pub struct Known {
     pub p: u32,
     pub q: u32,
@@ -111,7 +113,7 @@ fn distance_after(k: Known, p: u32, q: u32) -> f32
 }
 
 // A pixel's metric, and the distance that is known after it.
-#[derive(Drop)]
+#[derive(Clone, Copy)]
 pub struct Measured {
     pub metric: Metric,
     pub known: Known,
@@ -153,11 +155,11 @@ pub fn metric_of(c: u32, tl: u32, t: u32, tr: u32, r: u32, k: Known) -> Measured
 }
 
 // The source's [f32; 2].
-#[derive(Drop)]
+#[derive(Clone, Copy)]
 pub struct Pair(pub f32, pub f32);
 
 // A pixel's weights: its corners top-left, top-right, bottom-right and bottom-left. The crate `weight` has what they are.
-#[derive(Drop)]
+#[derive(Clone, Copy)]
 pub struct Weights {
     pub w0: f32,
     pub w1: f32,

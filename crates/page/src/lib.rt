@@ -1,4 +1,6 @@
 // The reader of a page file: pixels as little-endian words, then a trailer of twelve bytes at the file's end.
+#![tactic(auto)]
+
 ghost use Rattle.std.specs.Prelude.{◌≡◌, ◌+◌, ◌*◌, ◌^◌, ◌<◌, ◌≤◌, length};
 ghost use Rattle.picture.specs.Fill.{put};
 ghost use Rattle.picture.specs.Refusal.{trailer};
@@ -7,7 +9,7 @@ ghost use Rattle.page.specs.Page.{little_endian, part, words_from, trailer_of, r
 use picture::refusal;
 
 // What reading a page answers: the refusal's number or 0, and the page's sides, 0 beside a refusal.
-#[derive(Drop)]
+#[derive(Clone, Copy)]
 pub struct PageRead {
     pub refusal: u32,
     pub w: u32,
@@ -15,7 +17,7 @@ pub struct PageRead {
 }
 
 // What a file's last twelve bytes say: refusal 8 or 0, and the page's sides and back, 0 beside a refusal.
-#[derive(Drop)]
+#[derive(Clone, Copy)]
 struct Trailer {
     refusal: u32,
     w: u32,

@@ -1,53 +1,52 @@
 // Page files at the edges: what the reader answers and leaves in a buffer of four words that held 7, then the text and its length.
-use libc::STDOUT_FILENO;
+#![tactic(auto)]
 
-// A number and a byte after it.
-fn number(n: u32, after: &[u8]) {
-    io::print_decimal(STDOUT_FILENO, n as u64);
-    io::write_all(STDOUT_FILENO, after);
+use std::io;
+
+// A number and what stands after it.
+fn number(rt: &impl Print, n: u32, after: &str) -> io::Result<()> {
+    print!(rt; "{n}{after}")
 }
 
-fn word(n: u32) {
-    io::write_all(STDOUT_FILENO, b" ");
-    io::print_hex(STDOUT_FILENO, n as u64, 8);
+fn word(rt: &impl Print, n: u32) -> io::Result<()> {
+    print!(rt; " {n:08x}")
 }
 
 // The reader's answer, and the buffer's words.
-fn read(file: &[u8]) {
+fn read(rt: &impl Print, file: &[u8]) -> io::Result<()> {
     let mut picture = [7u32; 4];
     let page = page::read_page(file, &mut picture);
-    number(page.refusal, b" ");
-    number(page.w, b" ");
-    number(page.h, b"");
-    word(picture[0]);
-    word(picture[1]);
-    word(picture[2]);
-    word(picture[3]);
-    io::write_all(STDOUT_FILENO, b"\n");
+    number(rt, page.refusal, " ")?;
+    number(rt, page.w, " ")?;
+    number(rt, page.h, "")?;
+    word(rt, picture[0])?;
+    word(rt, picture[1])?;
+    word(rt, picture[2])?;
+    word(rt, picture[3])?;
+    rt.println("")
 }
 
 // The text's length, and the text; of a long one its first six bytes.
-fn print(file: &[u8]) {
+fn print(rt: &impl Print, file: &[u8]) -> io::Result<()> {
     let mut text = [0u8; print::TEXT];
     let k = print::page_text(file, &mut text);
-    io::print_decimal(STDOUT_FILENO, k as u64);
-    io::write_all(STDOUT_FILENO, b"\n");
+    println!(rt; "{k}")?;
     if k < 4096 {
-        io::write_all(STDOUT_FILENO, &text[..k]);
+        rt.write_all(&text[..k])
     } else {
-        io::write_all(STDOUT_FILENO, &text[..6]);
-        io::write_all(STDOUT_FILENO, b"\n");
+        rt.write_all(&text[..6])?;
+        rt.println("")
     }
 }
 
-fn show(file: &[u8]) {
-    read(file);
-    print(file);
+fn show(rt: &impl Print, file: &[u8]) -> io::Result<()> {
+    read(rt, file)?;
+    print(rt, file)
 }
 
 // 4,108 bytes that end with the trailer of w by h pixels, back given as its low byte and the next, and `lead` bytes before
 // them.
-fn longest(lead: usize, w: u8, h: u8, low: u8, next: u8) {
+fn longest(rt: &impl Print, lead: usize, w: u8, h: u8, low: u8, next: u8) -> io::Result<()> {
     let mut file = [0u8; 4112];
     file[4100] = w;
     file[4102] = h;
@@ -58,44 +57,56 @@ fn longest(lead: usize, w: u8, h: u8, low: u8, next: u8) {
     file[4110] = 0x47;
     file[4111] = 0x45;
     if lead < 4 {
-        print(&file[4 - lead..]);
+        print(rt, &file[4 - lead..])?;
     }
+    Ok(())
 }
 
-fn main() {
+fn main(rt: HostRuntime) -> io::Result<()> {
     // One pixel; the same after a byte, and without its first byte; two such pages glued together.
-    show(b"\x33\x22\x11\x00\x01\x00\x01\x00\x10\x00\x00\x00PAGE");
-    show(b"a\x33\x22\x11\x00\x01\x00\x01\x00\x10\x00\x00\x00PAGE");
-    show(b"\x22\x11\x00\x01\x00\x01\x00\x10\x00\x00\x00PAGE");
+    show(&rt, b"\x33\x22\x11\x00\x01\x00\x01\x00\x10\x00\x00\x00PAGE")?;
     show(
+        &rt,
+        b"a\x33\x22\x11\x00\x01\x00\x01\x00\x10\x00\x00\x00PAGE",
+    )?;
+    show(&rt, b"\x22\x11\x00\x01\x00\x01\x00\x10\x00\x00\x00PAGE")?;
+    show(
+        &rt,
         b"\x33\x22\x11\x00\x01\x00\x01\x00\x10\x00\x00\x00PAGE\x33\x22\x11\x00\x01\x00\x01\x00\x10\x00\x00\x00PAGE",
-    );
+    )?;
     // Two pixels, and three rows of one.
-    show(b"\x01\x02\x03\x04\x05\x06\x07\x08\x02\x00\x01\x00\x14\x00\x00\x00PAGE");
-    show(b"\x01\x00\x00\x00\x02\x00\x00\x00\x03\x00\x00\x00\x01\x00\x03\x00\x18\x00\x00\x00PAGE");
+    show(
+        &rt,
+        b"\x01\x02\x03\x04\x05\x06\x07\x08\x02\x00\x01\x00\x14\x00\x00\x00PAGE",
+    )?;
+    show(
+        &rt,
+        b"\x01\x00\x00\x00\x02\x00\x00\x00\x03\x00\x00\x00\x01\x00\x03\x00\x18\x00\x00\x00PAGE",
+    )?;
     // Five pixels: the buffer of four words is short.
     show(
+        &rt,
         b"\x01\x01\x01\x01\x02\x02\x02\x02\x03\x03\x03\x03\x04\x04\x04\x04\x05\x05\x05\x05\x05\x00\x01\x00\x20\x00\x00\x00PAGE",
-    );
+    )?;
     // Eleven bytes; twelve; thirteen, with a back of twelve and of thirteen.
-    show(b"\x00\x00\x00\x0c\x00\x00\x00PAGE");
-    show(b"\x00\x00\x00\x00\x0c\x00\x00\x00PAGE");
-    show(b"a\x00\x00\x00\x00\x0c\x00\x00\x00PAGE");
-    show(b"a\x00\x00\x00\x00\x0d\x00\x00\x00PAGE");
+    show(&rt, b"\x00\x00\x00\x0c\x00\x00\x00PAGE")?;
+    show(&rt, b"\x00\x00\x00\x00\x0c\x00\x00\x00PAGE")?;
+    show(&rt, b"a\x00\x00\x00\x00\x0c\x00\x00\x00PAGE")?;
+    show(&rt, b"a\x00\x00\x00\x00\x0d\x00\x00\x00PAGE")?;
     // The mark wrong; back wrong; back past the file; a product that would wrap.
-    show(b"\x00\x00\x00\x00\x0c\x00\x00\x00PAGF");
-    show(b"\x00\x00\x00\x00\x0d\x00\x00\x00PAGE");
-    show(b"\x01\x00\x01\x00\x10\x00\x00\x00PAGE");
-    show(b"\x00\x80\x00\x80\x0c\x00\x00\x00PAGE");
+    show(&rt, b"\x00\x00\x00\x00\x0c\x00\x00\x00PAGF")?;
+    show(&rt, b"\x00\x00\x00\x00\x0d\x00\x00\x00PAGE")?;
+    show(&rt, b"\x01\x00\x01\x00\x10\x00\x00\x00PAGE")?;
+    show(&rt, b"\x00\x80\x00\x80\x0c\x00\x00\x00PAGE")?;
     // Sides at the limit and past it, and past it after a byte.
-    show(b"\x00\x00\x00\x08\x0c\x00\x00\x00PAGE");
-    show(b"\x00\x08\x00\x00\x0c\x00\x00\x00PAGE");
-    show(b"\x00\x00\x01\x08\x0c\x00\x00\x00PAGE");
-    show(b"\x01\x08\x00\x00\x0c\x00\x00\x00PAGE");
-    show(b"a\x01\x08\x00\x00\x0c\x00\x00\x00PAGE");
+    show(&rt, b"\x00\x00\x00\x08\x0c\x00\x00\x00PAGE")?;
+    show(&rt, b"\x00\x08\x00\x00\x0c\x00\x00\x00PAGE")?;
+    show(&rt, b"\x00\x00\x01\x08\x0c\x00\x00\x00PAGE")?;
+    show(&rt, b"\x01\x08\x00\x00\x0c\x00\x00\x00PAGE")?;
+    show(&rt, b"a\x01\x08\x00\x00\x0c\x00\x00\x00PAGE")?;
     // 4,108 bytes, and 4,109: with the trailer of 32 by 32 pixels, a page of 4,108, and of 30 by 34, a page of 4,092.
-    longest(0, 32, 32, 0x0c, 0x10);
-    longest(1, 32, 32, 0x0c, 0x10);
-    longest(0, 30, 34, 0xfc, 0x0f);
-    longest(1, 30, 34, 0xfc, 0x0f);
+    longest(&rt, 0, 32, 32, 0x0c, 0x10)?;
+    longest(&rt, 1, 32, 32, 0x0c, 0x10)?;
+    longest(&rt, 0, 30, 34, 0xfc, 0x0f)?;
+    longest(&rt, 1, 30, 34, 0xfc, 0x0f)
 }

@@ -1,5 +1,7 @@
 // Why a paint or a list of paints is refused: the number of the first condition that holds, 0 for none. What every call refuses comes first,
 // then the list's length, then the items' places and the lock. side is the screen's limit of a side, m the length of the marks.
+#![tactic(auto)]
+
 ghost use Rattle.std.specs.Prelude.{◌≡◌, ◌*◌, ◌≤◌, length, take};
 ghost use Rattle.machine.specs.Calls.{refusal_word, refusal_paint, refusal_list};
 ghost use Rattle.machine.specs.Items.{refusal_items};

@@ -1,5 +1,7 @@
 // The paint and the paint list of a session, once for both screens: each takes the scale and the header, as the calls of `calls` do. A list
 // comes as an array with the first 64 of its items.
+#![tactic(auto)]
+
 ghost use Rattle.machine.specs.Calls.{Paints, PaintLists};
 ghost use Rattle.paints.specs.Paints.{listed};
 ghost use Rattle.screens.specs.Screens.{screen_of};
@@ -14,14 +16,14 @@ use screens::side;
 mod store;
 
 // changed: 1 where the word was stored, 0 where it was there already.
-#[derive(Drop)]
+#[derive(Clone, Copy)]
 pub struct Painted {
     pub refusal: u32,
     pub changed: u32,
     pub stale: u32,
 }
 
-#[derive(Drop)]
+#[derive(Clone, Copy)]
 pub struct PaintedList {
     pub refusal: u32,
     pub stale: u32,
@@ -37,9 +39,9 @@ pub fn paint(
     row: u32,
     word: u32,
 ) -> Painted
-    ensures { Paints (screen_of scale) header picture.entry.now marks.old column row word
+    ensures { Paints (screen_of scale) header picture.old marks.old column row word
         (record {
-          picture = picture.exit.now;
+          picture = picture.new;
           marks = marks.new;
           refusal = result.refusal;
           changed = result.changed;
@@ -73,9 +75,9 @@ pub fn paint_gathered(
     a: [Paint; 64],
     n: usize,
 ) -> PaintedList
-    ensures { PaintLists (screen_of scale) header picture.entry.now marks.old (listed n a)
+    ensures { PaintLists (screen_of scale) header picture.old marks.old (listed n a)
         (record {
-          picture = picture.exit.now;
+          picture = picture.new;
           marks = marks.new;
           refusal = result.refusal;
           stale = result.stale;

@@ -1,10 +1,12 @@
 // A paint of a list, of which one call takes up to 64, and an array with room for as many. `specs/Paints.antt` says what an array with the
 // first of them holds; `gathered` walks a list into it.
+#![tactic(auto)]
+
 ghost use Rattle.std.specs.Prelude.{◌≡◌, ◌≤◌};
 ghost use Rattle.paints.specs.Paints.{blanks, few_of};
 
 // One paint of a list: the word that is to stand at (column, row).
-#[derive(Drop)]
+#[derive(Clone, Copy)]
 pub struct Paint {
     pub column: u32,
     pub row: u32,

@@ -1,4 +1,6 @@
 // The nearest entry of a palette, and a picture's words replaced by it; `specs/Claims.antt` states what is claimed of them.
+#![tactic(auto)]
+
 ghost use Rattle.std.specs.Prelude.{◌≡◌, ◌<◌, ◌≤◌, length};
 ghost use Rattle.picture.specs.Fill.{put};
 ghost use Rattle.palette.specs.Palette.{nearest_of, replaced_of};

@@ -21,9 +21,9 @@ pub extern "C" fn panel9_open(
     header: &mut [u32; 8],
     stale: &mut u32,
 ) -> u32
-    ensures { Opens screen9 w h (setting_of clarity threshold) picture.now output.entry.now marks.old
+    ensures { Opens screen9 w h (setting_of clarity threshold) picture.now output.old marks.old
         (record {
-          output = output.exit.now;
+          output = output.new;
           marks = marks.new;
           refusal = result;
           header = header_of header.new;
@@ -48,9 +48,9 @@ pub extern "C" fn panel9_paint(
     stale: &mut u32,
 ) -> u32
     ensures { Paints screen9 (header_of header.now)
-        picture.entry.now marks.old column row word
+        picture.old marks.old column row word
         (record {
-          picture = picture.exit.now;
+          picture = picture.new;
           marks = marks.new;
           refusal = result;
           changed = changed.new;
@@ -72,9 +72,9 @@ pub extern "C" fn panel9_paint_list(
     stale: &mut u32,
 ) -> u32
     ensures { PaintLists screen9 (header_of header.now)
-        picture.entry.now marks.old (map paint_of items.now)
+        picture.old marks.old (map paint_of items.now)
         (record {
-          picture = picture.exit.now;
+          picture = picture.new;
           marks = marks.new;
           refusal = result;
           stale = stale.new;
@@ -95,9 +95,9 @@ pub extern "C" fn panel9_refresh(
     left: &mut u32,
 ) -> u32
     ensures { Refreshes screen9 (header_of header.now)
-        picture.now output.entry.now marks.old n
+        picture.now output.old marks.old n
         (record {
-          output = output.exit.now;
+          output = output.new;
           marks = marks.new;
           refusal = result;
           drawn = drawn.new;

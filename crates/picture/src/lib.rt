@@ -1,4 +1,6 @@
 // Reading the words of a picture at signed positions, clamped to its borders.
+#![tactic(auto)]
+
 ghost use Rattle.std.specs.Prelude.{◌≡◌, ◌+◌, ◌*◌, ◌<◌};
 ghost use Rattle.picture.specs.Picture.{clamp_z, moved, near, words};
 

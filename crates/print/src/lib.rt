@@ -1,4 +1,6 @@
 // What page3x prints of a page file, written into a lent buffer.
+#![tactic(auto)]
+
 ghost use Rattle.std.specs.Prelude.{◌*◌, ◌≤◌, length};
 ghost use Rattle.text.specs.Text.{enlarged_text, Prints};
 ghost use Rattle.text.specs.Writes.{Writes};

@@ -1,4 +1,6 @@
 // The refresh of a session, once for both screens: it takes the scale and the header, as the calls of `calls` do.
+#![tactic(auto)]
+
 ghost use Rattle.machine.specs.Calls.{Refreshes};
 ghost use Rattle.screens.specs.Screens.{screen_of};
 
@@ -8,7 +10,7 @@ use picture::place::least;
 use refusals::refuse_all;
 use screens::{side, words};
 
-#[derive(Drop)]
+#[derive(Clone, Copy)]
 pub struct Refreshed {
     pub refusal: u32,
     pub drawn: u32,
@@ -24,9 +26,9 @@ pub fn refresh(
     marks: &mut [u8],
     n: u32,
 ) -> Refreshed
-    ensures { Refreshes (screen_of scale) header picture.now output.entry.now marks.old n
+    ensures { Refreshes (screen_of scale) header picture.now output.old marks.old n
         (record {
-          output = output.exit.now;
+          output = output.new;
           marks = marks.new;
           refusal = result.refusal;
           drawn = result.drawn;

@@ -2,6 +2,8 @@
 // refused for is in `paint_refusals`. side is the screen's limit of a side, words how many words a block has; header is the one that the
 // call is lent, or is to answer; p, o and m are the lengths of the picture, the output and the marks. No screen has a longer side than
 // 2,048, nor a block of more than 81 words, as many as nine-times makes of a pixel: so no product wraps.
+#![tactic(auto)]
+
 ghost use Rattle.std.specs.Prelude.{◌≡◌, ◌≤◌};
 ghost use Rattle.picture.specs.Refusal.{none};
 ghost use Rattle.machine.specs.Calls.{side_long, refusal_header, refusal_clarity, refusal_all, refusal_lent};

@@ -1,6 +1,8 @@
 // Sixteen registers before a session, as bytes: what they start as, what a read gives, what a write stores in them, and what a command's
 // answer leaves in them. `specs/Address.antt` has their addresses in order, `specs/Registers.antt` says what becomes of each. The session's
 // calls are made by the crate `registers3x`.
+#![tactic(auto)]
+
 ghost use Rattle.std.specs.Prelude.{◌≡◌, ◌+◌, ◌*◌};
 ghost use Rattle.registers.specs.Address as address;
 ghost use Rattle.registers.specs.Registers.{two_bytes, four_bytes, stale_bit, status_of, line_of};
@@ -15,7 +17,7 @@ pub const PAINT: u8 = 1;
 pub const REFRESH: u8 = 2;
 
 // What a read gives: the byte, or 0 beside a refusal.
-#[derive(Drop)]
+#[derive(Clone, Copy)]
 pub struct ByteRead {
     pub refusal: u32,
     pub value: u8,

@@ -1,5 +1,7 @@
 // Both screens by a number that is handed in, the scale: 9 for the nine-times screen, any other for the three-times one. What a call asks
 // of its screen is answered here: the limit of a side, a block's words and where they lie, and the marks that a changing paint makes.
+#![tactic(auto)]
+
 ghost use Rattle.std.specs.Prelude.{◌≡◌, ◌*◌, ◌<◌, ◌≤◌, length};
 ghost use Rattle.machine.specs.Lists.{stamp};
 ghost use Rattle.machine.specs.Screen.{block_words, place};

@@ -3,6 +3,8 @@
 // and `refreshed`, at the three-times screen. `machine/specs/Calls.antt` says what each call leaves and answers, `Machine.antt` beside it
 // is the plain machine, `Demand3.antt` says what holds of every list of calls, and `promise/specs/Promise.antt` asks for that of this
 // screen.
+#![tactic(auto)]
+
 ghost use Rattle.std.specs.Prelude.{◌≡◌};
 ghost use Rattle.machine.specs.Calls.{Opens, Paints, PaintLists, Refreshes, Shows, Locks};
 ghost use Rattle.paints.specs.Paints.{listed};
@@ -17,25 +19,25 @@ use refreshed::Refreshed;
 use screens::{SIDE_THREE, THREE};
 
 // A session is known by its header alone: the buffers are lent to each call. The type says which screen's calls it was opened for.
-#[derive(Drop)]
+#[derive(Clone, Copy)]
 pub struct Session3x {
     pub header: Header,
 }
 
-#[derive(Drop)]
+#[derive(Clone, Copy)]
 pub struct Opened {
     pub refusal: u32,
     pub session: Session3x,
     pub stale: u32,
 }
 
-#[derive(Drop)]
+#[derive(Clone, Copy)]
 pub struct Shown {
     pub refusal: u32,
     pub words: [u32; 9],
 }
 
-#[derive(Drop)]
+#[derive(Clone, Copy)]
 pub struct Locked {
     pub refusal: u32,
     pub session: Session3x,
@@ -61,9 +63,9 @@ impl Session3x {
         output: &mut [u32],
         marks: &mut [u8],
     ) -> Opened
-        ensures { Opens screen3 w h clarity picture.now output.entry.now marks.old
+        ensures { Opens screen3 w h clarity picture.now output.old marks.old
             (record {
-              output = output.exit.now;
+              output = output.new;
               marks = marks.new;
               refusal = result.refusal;
               header = result.session.header;
@@ -88,9 +90,9 @@ impl Session3x {
         row: u32,
         word: u32,
     ) -> Painted
-        ensures { Paints screen3 self.header picture.entry.now marks.old column row word
+        ensures { Paints screen3 self.header picture.old marks.old column row word
             (record {
-              picture = picture.exit.now;
+              picture = picture.new;
               marks = marks.new;
               refusal = result.refusal;
               changed = result.changed;
@@ -102,9 +104,9 @@ impl Session3x {
 
     // The paints of a list, all of them in its order or, where one would be refused at its turn, none.
     pub fn paint_list(self, picture: &mut [u32], marks: &mut [u8], items: &[Paint]) -> PaintedList
-        ensures { PaintLists screen3 self.header picture.entry.now marks.old items.now
+        ensures { PaintLists screen3 self.header picture.old marks.old items.now
             (record {
-              picture = picture.exit.now;
+              picture = picture.new;
               marks = marks.new;
               refusal = result.refusal;
               stale = result.stale;
@@ -124,9 +126,9 @@ impl Session3x {
         a: [Paint; 64],
         n: usize,
     ) -> PaintedList
-        ensures { PaintLists screen3 self.header picture.entry.now marks.old (listed n a)
+        ensures { PaintLists screen3 self.header picture.old marks.old (listed n a)
             (record {
-              picture = picture.exit.now;
+              picture = picture.new;
               marks = marks.new;
               refusal = result.refusal;
               stale = result.stale;
@@ -137,9 +139,9 @@ impl Session3x {
 
     // The first n stale blocks in row order redrawn from the picture.
     pub fn refresh(self, picture: &[u32], output: &mut [u32], marks: &mut [u8], n: u32) -> Refreshed
-        ensures { Refreshes screen3 self.header picture.now output.entry.now marks.old n
+        ensures { Refreshes screen3 self.header picture.now output.old marks.old n
             (record {
-              output = output.exit.now;
+              output = output.new;
               marks = marks.new;
               refusal = result.refusal;
               drawn = result.drawn;

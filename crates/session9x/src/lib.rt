@@ -2,6 +2,8 @@
 // of `calls`, `painted` and `refreshed`, at the nine-times screen. `machine/specs/Calls.antt` says what each call leaves and answers,
 // `Machine.antt` beside it is the plain machine, `Demand3.antt` says what holds of every list of calls, and `promise/specs/Promise.antt`
 // asks for that of this screen.
+#![tactic(auto)]
+
 ghost use Rattle.std.specs.Prelude.{◌≡◌};
 ghost use Rattle.machine.specs.Calls.{Opens, Paints, PaintLists, Refreshes, Shows, Locks};
 ghost use Rattle.paints.specs.Paints.{listed};
@@ -16,25 +18,25 @@ use refreshed::Refreshed;
 use screens::{NINE, SIDE_NINE};
 
 // A session is known by its header alone: the buffers are lent to each call. The type says which screen's calls it was opened for.
-#[derive(Drop)]
+#[derive(Clone, Copy)]
 pub struct Session9x {
     pub header: Header,
 }
 
-#[derive(Drop)]
+#[derive(Clone, Copy)]
 pub struct Opened {
     pub refusal: u32,
     pub session: Session9x,
     pub stale: u32,
 }
 
-#[derive(Drop)]
+#[derive(Clone, Copy)]
 pub struct Shown {
     pub refusal: u32,
     pub words: [u32; 81],
 }
 
-#[derive(Drop)]
+#[derive(Clone, Copy)]
 pub struct Locked {
     pub refusal: u32,
     pub session: Session9x,
@@ -60,9 +62,9 @@ impl Session9x {
         output: &mut [u32],
         marks: &mut [u8],
     ) -> Opened
-        ensures { Opens screen9 w h clarity picture.now output.entry.now marks.old
+        ensures { Opens screen9 w h clarity picture.now output.old marks.old
             (record {
-              output = output.exit.now;
+              output = output.new;
               marks = marks.new;
               refusal = result.refusal;
               header = result.session.header;
@@ -87,9 +89,9 @@ impl Session9x {
         row: u32,
         word: u32,
     ) -> Painted
-        ensures { Paints screen9 self.header picture.entry.now marks.old column row word
+        ensures { Paints screen9 self.header picture.old marks.old column row word
             (record {
-              picture = picture.exit.now;
+              picture = picture.new;
               marks = marks.new;
               refusal = result.refusal;
               changed = result.changed;
@@ -101,9 +103,9 @@ impl Session9x {
 
     // The paints of a list, all of them in its order or, where one would be refused at its turn, none.
     pub fn paint_list(self, picture: &mut [u32], marks: &mut [u8], items: &[Paint]) -> PaintedList
-        ensures { PaintLists screen9 self.header picture.entry.now marks.old items.now
+        ensures { PaintLists screen9 self.header picture.old marks.old items.now
             (record {
-              picture = picture.exit.now;
+              picture = picture.new;
               marks = marks.new;
               refusal = result.refusal;
               stale = result.stale;
@@ -123,9 +125,9 @@ impl Session9x {
         a: [Paint; 64],
         n: usize,
     ) -> PaintedList
-        ensures { PaintLists screen9 self.header picture.entry.now marks.old (listed n a)
+        ensures { PaintLists screen9 self.header picture.old marks.old (listed n a)
             (record {
-              picture = picture.exit.now;
+              picture = picture.new;
               marks = marks.new;
               refusal = result.refusal;
               stale = result.stale;
@@ -136,9 +138,9 @@ impl Session9x {
 
     // The first n stale blocks in row order redrawn from the picture.
     pub fn refresh(self, picture: &[u32], output: &mut [u32], marks: &mut [u8], n: u32) -> Refreshed
-        ensures { Refreshes screen9 self.header picture.now output.entry.now marks.old n
+        ensures { Refreshes screen9 self.header picture.now output.old marks.old n
             (record {
-              output = output.exit.now;
+              output = output.new;
               marks = marks.new;
               refusal = result.refusal;
               drawn = result.drawn;

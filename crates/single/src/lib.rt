@@ -1,4 +1,6 @@
 // Singles: the square root, rounded to the nearest single, and the larger, the smaller and the clamped of singles as Rust has them.
+#![tactic(auto)]
+
 ghost use Rattle.std.specs.Prelude.{◌≡◌, ◌<◌, T};
 ghost use Rattle.single.specs.Root.{root_bits, sqrt_of, rooted, root_answer};
 ghost use Rattle.single.specs.Parts.{PartsOf};
@@ -7,7 +9,7 @@ ghost use Rattle.single.specs.Single.{max_of, min_of, clamp_of};
 use picture::refusal;
 
 // What `root` answers: `root` is 0.0 beside a refusal.
-#[derive(Drop)]
+#[derive(Clone, Copy)]
 pub struct Rooted {
     pub refusal: u32,
     pub root: f32,
@@ -57,7 +59,7 @@ fn root_bits(b: u32) -> u32
 }
 
 // A single of m * 2 ^ (e - 126) units of 2 ^ -149, m having 24 digits.
-#[derive(Drop)]
+#[derive(Clone, Copy)]
 struct Parts {
     m: u32,
     e: u32,

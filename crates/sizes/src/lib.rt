@@ -1,5 +1,7 @@
 // Why a whole picture is refused: by its sides, by the lengths of what is lent, and by its setting of clarity. `specs/Sizes.antt` has the
 // lengths that each call asks for.
+#![tactic(auto)]
+
 ghost use Rattle.std.specs.Prelude.{◌≡◌, ◌*◌, ◌≤◌};
 ghost use Rattle.sizes.specs.Sizes.{asked3, asked9, refusal_of, words_within};
 
@@ -12,7 +14,7 @@ const SIDE9: u32 = 682;
 
 // What a call asks for: sides within a limit, and so many words of the picture, of the replaced picture, of the output and of the middle,
 // and elements of both singles and bytes.
-#[derive(Drop)]
+#[derive(Clone, Copy)]
 pub struct Asked {
     pub limit: u32,
     pub w: u32,
@@ -25,7 +27,7 @@ pub struct Asked {
 }
 
 // The lengths of the buffers that it is lent.
-#[derive(Drop)]
+#[derive(Clone, Copy)]
 pub struct Lengths {
     pub picture: usize,
     pub replaced: usize,

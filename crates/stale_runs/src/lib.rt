@@ -1,5 +1,7 @@
 // Runs of a tile's stale blocks, stored by their tags: row by row of the tile, each run of stale blocks in one go, and the others keep
 // their words. It rests on that the source and the tags stand ready: they give the blocks of nine words of the screen's last pass.
+#![tactic(auto)]
+
 ghost use Rattle.std.specs.Prelude.{◌≡◌, ◌+◌, ◌*◌, ◌<◌, ◌≤◌, length};
 ghost use Rattle.picture.specs.Picture.{words};
 ghost use Rattle.machine.specs.Lent.{Lent};
@@ -15,7 +17,7 @@ use screens::{NINE, corner};
 use stored::put_rect;
 
 // Where a tile's blocks are drawn from: the last pass runs over a picture of w by h, in which the tile begins at (x, y).
-#[derive(Drop)]
+#[derive(Clone, Copy)]
 pub struct Source {
     pub w: u32,
     pub h: u32,

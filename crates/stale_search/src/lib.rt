@@ -1,6 +1,8 @@
 // Searches for the rectangle round the stale blocks of a part of the picture: its first and last column and row. They promise that what
 // they leave out has no stale block. That they leave out all they can keeps tiles small; what is drawn does not depend on it, so it is not
 // promised.
+#![tactic(auto)]
+
 ghost use Rattle.std.specs.Prelude.{◌≡◌, true, ◌+◌, ◌<◌, ◌≤◌, length};
 ghost use Rattle.marks.specs.Marks.{ClearUpTo, ClearFrom, Clear, Part};
 

@@ -1,6 +1,8 @@
 // Blocks stored in an output whose rows have `ow` words: of a row of pixels, and of a rectangle of them. Whole pictures and runs of stale
 // blocks are written here, each word where it belongs: a row's pixels are copied first, and then the word that a tag names is stored over
 // its copy.
+#![tactic(auto)]
+
 ghost use Rattle.std.specs.Prelude.{◌≡◌, ◌+◌, ◌*◌, ◌<◌, ◌≤◌, length};
 ghost use Rattle.picture.specs.Picture.{words};
 ghost use Rattle.grid.specs.Grid.{tags_at};

@@ -1,6 +1,8 @@
 // The tags of a pixel and the offsets that they name, section 5: `specs/Tag.antt` is the source. The crate `trace` finds the tags with
 // the flags of the four corners side by side in a word, so that a level is tested for all of them at once: `specs/Words.antt` is what
 // it computes, and `proofs/Same.antt` shows that the two are the same tags.
+#![tactic(auto)]
+
 ghost use Rattle.std.specs.Prelude.{◌≡◌};
 ghost use Rattle.tag.specs.Tag.{offset_of};
 ghost use Rattle.tag.specs.Words.{bare_of};
@@ -30,7 +32,7 @@ pub const OWN: u32 = 0x07030501;
 pub const AFTER: u32 = 0x05010703;
 
 // Section 5's tag numbers.
-#[derive(Drop)]
+#[derive(Clone, Copy)]
 pub struct Tags {
     pub t0: u8,
     pub t1: u8,
@@ -40,7 +42,7 @@ pub struct Tags {
 
 // The junction numbers at one distance, for each corner those of the pixel on the corner's own side (left for the corners 0 and 3,
 // above for 0 and 1) and on the other side.
-#[derive(Drop)]
+#[derive(Clone, Copy)]
 pub struct Neighbors {
     pub hs: u32,
     pub ho: u32,
@@ -49,7 +51,7 @@ pub struct Neighbors {
 }
 
 // What the levels 4 and 6 give to the corner tags: the flags of the first two branches, and the tags of the last four.
-#[derive(Drop)]
+#[derive(Clone, Copy)]
 pub struct FarCorners {
     pub first: u32,
     pub second: u32,
@@ -57,7 +59,7 @@ pub struct FarCorners {
 }
 
 // What the level 5 gives to the mid-edge tags: the flags of the first branch, the flags and the tags of its own two.
-#[derive(Drop)]
+#[derive(Clone, Copy)]
 pub struct FarMids {
     pub first: u32,
     pub any: u32,
@@ -65,14 +67,14 @@ pub struct FarMids {
 }
 
 // What the pixels two and three away give to the tags.
-#[derive(Drop)]
+#[derive(Clone, Copy)]
 pub struct Far {
     pub corners: FarCorners,
     pub mids: FarMids,
 }
 
 // The tags of a pixel where those beside it decide them, and whether they do.
-#[derive(Drop)]
+#[derive(Clone, Copy)]
 pub struct Near {
     pub tags: Tags,
     pub known: bool,
@@ -86,7 +88,7 @@ pub fn bare(e: Junctions) -> bool
 }
 
 // A signed pair.
-#[derive(Drop)]
+#[derive(Clone, Copy)]
 pub struct Offset {
     pub dx: i32,
     pub dy: i32,

@@ -1,5 +1,7 @@
 // The block of one pixel stored by its tags in an output whose rows have `ow` words, where nine copies of the pixel stand: the word that a
 // tag names is stored over its copy.
+#![tactic(auto)]
+
 ghost use Rattle.std.specs.Prelude.{◌≡◌, ◌+◌, ◌*◌, ◌<◌, ◌≤◌, eqb, ltb, length};
 ghost use Rattle.picture.specs.Picture.{words};
 ghost use Rattle.picture.specs.Fill.{put};

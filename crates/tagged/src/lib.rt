@@ -1,5 +1,7 @@
 // The pass of the tags over a rectangle of pixels: it reads the junctions out to distance 3 at clamped places of a lent buffer and
 // writes one record a pixel, row by row, as the passes of the crate `field` do.
+#![tactic(auto)]
+
 ghost use Rattle.std.specs.Prelude.{◌≡◌, ◌+◌, ◌*◌, ◌≤◌, length, take};
 ghost use Rattle.picture.specs.Fill.{put};
 ghost use Rattle.tag.specs.Tag.{tags};

@@ -1,4 +1,6 @@
 // The text of a picture and of a refusal, written into a lent buffer piece by piece.
+#![tactic(auto)]
+
 ghost use Rattle.std.specs.Prelude.{◌≡◌, [], ◌∷◌, ◌++◌, ◌+◌, ◌*◌, ◌<◌, ◌≤◌, length};
 ghost use Rattle.text.specs.Text.{digits, places, hex, decimal, spaced, line, rows};
 ghost use Rattle.text.specs.Text.{sides_text, picture_text, refused_text};

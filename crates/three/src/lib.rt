@@ -1,4 +1,6 @@
 // The three-times screen: its definition, the proof that it is lawful, and the marks that a changing paint makes.
+#![tactic(auto)]
+
 ghost use Rattle.std.specs.Prelude.{◌≡◌, ◌*◌, ◌<◌, ◌≤◌, length};
 ghost use Rattle.machine.specs.Lists.{stamp};
 ghost use Rattle.machine.specs.Machine.{names};

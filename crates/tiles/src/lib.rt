@@ -2,6 +2,8 @@
 // while the others keep their words. Both screens store blocks of nine words, those of the last pass: the three-times screen one for each
 // of its own blocks, from the picture, and the nine-times screen three by three, from a window of the first result that the first pass
 // leaves on the stack.
+#![tactic(auto)]
+
 ghost use Rattle.std.specs.Prelude.{◌≡◌, ◌+◌, ◌*◌, ◌≤◌, length};
 ghost use Rattle.picture.specs.Picture.{words};
 ghost use Rattle.block.specs.Block.{block_of};

@@ -1,4 +1,6 @@
 // `trace_edges` of scalefx.rs: the tags of a pixel, with the flags of the four corners side by side in a word.
+#![tactic(auto)]
+
 ghost use Rattle.std.specs.Prelude.{◌≡◌};
 ghost use Rattle.tag.specs.Tag.{trace_edges};
 ghost use Rattle.tag.specs.Words.{corners_of, both_of, mids_of, tags_word, split_of, near_of};

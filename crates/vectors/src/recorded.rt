@@ -1,6 +1,9 @@
 // The words of the recording, one after the other from standard input.
 ghost use Rattle.std.specs.Prelude.{◌<◌};
 
+use std::io;
+use std::io::{ErrorKind, Read};
+
 // A byte as a word.
 pub fn wide(x: u8) -> u32
     ensures { result < 256 }
@@ -9,17 +12,22 @@ pub fn wide(x: u8) -> u32
 }
 
 // The next word; 0 past the end of the recording.
-pub fn next() -> u32 {
+pub fn next(input: &mut impl Read) -> io::Result<u32> {
     let mut b: [u8; 4] = [0; 4];
-    let got = io::read_full(0, &mut b);
-    if got < 4 {
-        return 0;
+    match input.read_exact(&mut b) {
+        Ok(()) => Ok(u32::from_le_bytes(b)),
+        Err(e) => {
+            if e.kind() == ErrorKind::UnexpectedEof {
+                Ok(0)
+            } else {
+                Err(e)
+            }
+        }
     }
-    wide(b[0]) + 256 * wide(b[1]) + 65536 * wide(b[2]) + 16777216 * wide(b[3])
 }
 
 // A picture's head: whether its values are recorded in full and not by digests, its sides, and its pixels.
-#[derive(Drop)]
+#[derive(Clone, Copy)]
 pub struct Head {
     pub full: bool,
     pub w: u32,
@@ -28,17 +36,17 @@ pub struct Head {
 }
 
 // The head of the next picture.
-pub fn next_head() -> Head {
-    let form = next();
-    let w = next();
-    let h = next();
-    let n = next();
-    Head {
+pub fn next_head(input: &mut impl Read) -> io::Result<Head> {
+    let form = next(input)?;
+    let w = next(input)?;
+    let h = next(input)?;
+    let n = next(input)?;
+    Ok(Head {
         full: form == 1,
-        w: w,
-        h: h,
-        n: n,
-    }
+        w,
+        h,
+        n,
+    })
 }
 
 fn put(words: &mut [u32], i: usize, word: u32) {
@@ -48,10 +56,9 @@ fn put(words: &mut [u32], i: usize, word: u32) {
 }
 
 // The next n words, as far as there is room for them.
-pub fn fill(words: &mut [u32], n: u32) {
-    let mut i: u32 = 0;
-    while i < n {
-        put(words, i as usize, next());
-        i += 1;
+pub fn fill(input: &mut impl Read, words: &mut [u32], n: u32) -> io::Result<()> {
+    for i in 0..n {
+        put(words, i as usize, next(input)?);
     }
+    Ok(())
 }

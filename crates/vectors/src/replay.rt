@@ -3,6 +3,8 @@ use crate::recorded;
 use crate::recorded::Head;
 use crate::tally::Tally;
 use clarity::Clarity;
+use std::io;
+use std::io::Read;
 
 // The pattern of a single; for what is not a number, the pattern that stands for all such.
 fn pattern(x: f32) -> u32 {
@@ -35,61 +37,83 @@ fn word_at(words: &[u32], i: usize) -> u32 {
 }
 
 // The elements from `from` below `end`: one part of the recording.
-fn singles_of(t: Tally, singles: &[f32], from: usize, end: usize) -> Tally {
+fn singles_of(
+    input: &mut impl Read,
+    t: Tally,
+    singles: &[f32],
+    from: usize,
+    end: usize,
+) -> io::Result<Tally> {
     let mut u = t;
-    let mut i = from;
-    while i < end {
-        u = u.value(single_at(singles, i));
-        i += 1;
+    for i in from..end {
+        u = u.value(input, single_at(singles, i))?;
     }
-    u.part()
+    u.part(input)
 }
 
-fn bytes_of(t: Tally, bytes: &[u8], from: usize, end: usize) -> Tally {
+fn bytes_of(
+    input: &mut impl Read,
+    t: Tally,
+    bytes: &[u8],
+    from: usize,
+    end: usize,
+) -> io::Result<Tally> {
     let mut u = t;
-    let mut i = from;
-    while i < end {
-        u = u.value(byte_at(bytes, i));
-        i += 1;
+    for i in from..end {
+        u = u.value(input, byte_at(bytes, i))?;
     }
-    u.part()
+    u.part(input)
 }
 
-fn words_of(t: Tally, words: &[u32], end: usize) -> Tally {
+fn words_of(input: &mut impl Read, t: Tally, words: &[u32], end: usize) -> io::Result<Tally> {
     let mut u = t;
-    let mut i: usize = 0;
-    while i < end {
-        u = u.value(word_at(words, i));
-        i += 1;
+    for i in 0..end {
+        u = u.value(input, word_at(words, i))?;
     }
-    u.part()
+    u.part(input)
 }
 
 // The stages of n pixels and their output.
-fn stages(t: Tally, n: u32, output: &[u32], singles: &[f32], bytes: &[u8]) -> Tally {
+fn stages(
+    input: &mut impl Read,
+    t: Tally,
+    n: u32,
+    output: &[u32],
+    singles: &[f32],
+    bytes: &[u8],
+) -> io::Result<Tally> {
     let pixels = n as usize;
-    let a = singles_of(t, singles, 0, 4 * pixels);
-    let b = singles_of(a, singles, 4 * pixels, 8 * pixels);
-    let c = bytes_of(b, bytes, 0, 4 * pixels);
-    let d = bytes_of(c, bytes, 4 * pixels, 8 * pixels);
-    words_of(d, output, 9 * pixels)
+    let a = singles_of(input, t, singles, 0, 4 * pixels)?;
+    let b = singles_of(input, a, singles, 4 * pixels, 8 * pixels)?;
+    let c = bytes_of(input, b, bytes, 0, 4 * pixels)?;
+    let d = bytes_of(input, c, bytes, 4 * pixels, 8 * pixels)?;
+    words_of(input, d, output, 9 * pixels)
 }
 
 // The picture enlarged three times.
 pub fn three_times(
+    input: &mut impl Read,
     t: Tally,
     p: Head,
     picture: &[u32],
     output: &mut [u32],
     singles: &mut [f32],
     bytes: &mut [u8],
-) -> Tally {
+) -> io::Result<Tally> {
     let refusal = whole::scale(p.w, p.h, Clarity::Standard, picture, output, singles, bytes);
-    stages(t.picture(p.full, refusal), p.n, output, singles, bytes)
+    stages(
+        input,
+        t.picture(p.full, refusal),
+        p.n,
+        output,
+        singles,
+        bytes,
+    )
 }
 
 // The picture enlarged nine times, where it is recorded by digests.
 pub fn nine_times(
+    input: &mut impl Read,
     t: Tally,
     p: Head,
     picture: &[u32],
@@ -97,9 +121,9 @@ pub fn nine_times(
     middle: &mut [u32],
     singles: &mut [f32],
     bytes: &mut [u8],
-) -> Tally {
+) -> io::Result<Tally> {
     if p.full {
-        return t;
+        return Ok(t);
     }
     let refusal = whole::scale9x(
         p.w,
@@ -111,5 +135,5 @@ pub fn nine_times(
         singles,
         bytes,
     );
-    words_of(t.called(refusal), output, 81 * (p.n as usize))
+    words_of(input, t.called(refusal), output, 81 * (p.n as usize))
 }

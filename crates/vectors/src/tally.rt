@@ -1,7 +1,9 @@
 // What was compared so far, and the digest of the part that is being compared.
 use crate::recorded;
+use std::io;
+use std::io::Read;
 
-#[derive(Drop)]
+#[derive(Clone, Copy)]
 pub struct Tally {
     // Whether the picture's values are recorded in full, and not by digests.
     full: bool,
@@ -24,7 +26,7 @@ fn mixed(digest: u32, word: u32) -> u32 {
 }
 
 fn sum(a: u64, b: u64) -> u64 {
-    std::num::wrapping_add_u64(a, b)
+    a.wrapping_add(b)
 }
 
 fn unequal(a: u32, b: u32) -> u64 {
@@ -58,36 +60,35 @@ impl Tally {
     }
 
     // One value: beside the next recorded one, or into the digest.
-    pub fn value(mut self, word: u32) -> Tally {
+    pub fn value(mut self, input: &mut impl Read, word: u32) -> io::Result<Tally> {
         if self.full {
             self.values = sum(self.values, 1);
-            self.differences = sum(self.differences, unequal(word, recorded::next()));
+            self.differences = sum(self.differences, unequal(word, recorded::next(input)?));
         } else {
             self.digest = mixed(self.digest, word);
         }
-        self
+        Ok(self)
     }
 
     // A part ends: its digest beside the next recorded one.
-    pub fn part(mut self) -> Tally {
+    pub fn part(mut self, input: &mut impl Read) -> io::Result<Tally> {
         if self.full {
-            return self;
+            return Ok(self);
         }
         self.digests = sum(self.digests, 1);
-        self.differences = sum(self.differences, unequal(self.digest, recorded::next()));
+        self.differences = sum(
+            self.differences,
+            unequal(self.digest, recorded::next(input)?),
+        );
         self.digest = START;
-        self
+        Ok(self)
     }
 }
 
 // Writes what was compared, and how many values differ.
-pub fn print(t: Tally) {
-    io::print_decimal(1, t.pictures);
-    io::write_all(1, b" pictures, ");
-    io::print_decimal(1, t.values);
-    io::write_all(1, b" values and ");
-    io::print_decimal(1, t.digests);
-    io::write_all(1, b" digests: ");
-    io::print_decimal(1, t.differences);
-    io::write_all(1, b" differences\n");
+pub fn print(rt: &impl Print, t: Tally) -> io::Result<()> {
+    println!(rt;
+        "{} pictures, {} values and {} digests: {} differences",
+        t.pictures, t.values, t.digests, t.differences
+    )
 }

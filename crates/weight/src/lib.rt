@@ -1,5 +1,7 @@
 // Corner weights at a setting of clarity: `corner_weight` and `compute_corner_weights` of scalefx.rs. Each operation is rounded once, in
 // the order in which the source writes it.
+#![tactic(auto)]
+
 ghost use Rattle.std.specs.Prelude.{◌≡◌, true, cond, ◌&&◌, T, Float};
 ghost use Rattle.std.specs.Float.Ieee.{neg, eq};
 ghost use Rattle.single.specs.Single.{f0};

@@ -1,5 +1,7 @@
 // Whole pictures: the calls `scale` and `scale9x`, three-times and nine-times, into buffers that the caller lends. What they run once
 // nothing refuses them is that of `enlarged`.
+#![tactic(auto)]
+
 ghost use Rattle.whole.specs.Calls.{Scales, Scales9};
 
 use clarity::Clarity;

@@ -1,5 +1,7 @@
 // Whole pictures on panels with a palette: the calls `scale_palette` and `scale9x_palette`. Each word is replaced by the nearest entry, and
 // the replaced picture is enlarged by the calls of `whole`.
+#![tactic(auto)]
+
 ghost use Rattle.std.specs.Prelude.{◌≡◌};
 ghost use Rattle.whole_palette.specs.Calls.{ScalesBy, ScalesBy9, refusal_palette};
 

@@ -1,0 +1,9 @@
+-- `lanes::down` meets its contract. Assumes nothing.
+use borrow.Author.Rules.{rules}
+use mathlib.Core.Path.{refl}
+use Rattle.lanes.specs.Lanes.{down}
+use Rattle.lanes.proofs.down.Goals as goal
+
+pub returns : goal.returns
+unfolding down
+returns c = refl

@@ -1,0 +1,16 @@
+-- `marks::clear_run` meets its contract. The first i blocks are cleared. Assumes nothing.
+use mathlib.Core.Path.{◌≡◌, refl, ◌∙◌, subst}
+use Prim.Native.Nat.{ℕ, ◌+◌, ◌-◌, ◌≤◌}
+use native.Mathlib.Omega.{arith}
+use borrow.Author.Rules.{rules}
+use lib.ListN.{length, length-set}
+use Rattle.machine.specs.Lists.{set_all}
+use Rattle.marks.specs.Marks.{blocks_from}
+use Rattle.marks.proofs.Counts.{clear_more}
+use Rattle.marks.proofs.clear_run.Goals as goal
+
+pub loop-i-preserved : goal.loop-i-preserved
+loop-i-preserved c =
+    let a = c.args in
+    let l = c.loop-i in
+    (omega arith, length-set l.marks (a.b + l.i) 0 ∙ l.invariant.1, clear_more a.b l.i a.marks.now l.marks l.invariant.2)

@@ -1,0 +1,16 @@
+-- What the loop keeps, and its measure.
+use mathlib.Core.Path.{◌≡◌, refl, ◌∙◌, subst}
+use Prim.Native.Nat.{ℕ, ◌+◌, ◌-◌, ◌≤◌}
+use native.Mathlib.Omega.{arith}
+use borrow.Author.Rules.{rules}
+use lib.ListN.{length, length-set}
+use Rattle.machine.specs.Lists.{set_all}
+use Rattle.marks.specs.Marks.{blocks_from}
+use Rattle.marks.proofs.Counts.{clear_more}
+use Rattle.marks.proofs.clear_run.Given as goal
+
+abbrev pub invariant-loop-i : goal.invariant-loop-i
+invariant-loop-i l = (l.i ≤ l.k) × (length l.marks ≡ length l.initial.marks) × (l.marks ≡ set_all (blocks_from l.b l.i) 0 l.initial.marks)
+
+abbrev pub decreases-loop-i : goal.decreases-loop-i
+decreases-loop-i l = l.k - l.i

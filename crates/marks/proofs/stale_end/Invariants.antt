@@ -1,0 +1,19 @@
+-- What the loop keeps, and its measure.
+use mathlib.Core.Path.{◌≡◌, refl}
+use mathlib.Core.List.{[], ◌∷◌}
+use Prim.Native.Nat.{◌+◌, ◌-◌, ◌≤◌, ◌<◌}
+use native.Mathlib.Omega.{arith}
+use borrow.Author.Rules.{rules}
+use lib.ListN.{get_or}
+use Rattle.machine.specs.Lists.{count}
+use Rattle.machine.specs.Calls.{is_stale}
+use Rattle.machine.proofs.Lists.{count_le}
+use Rattle.marks.specs.Marks.{stale_in}
+use Rattle.marks.proofs.Counts.{count_none, count_one, count_split, run_left}
+use Rattle.marks.proofs.stale_end.Given as goal
+
+abbrev pub invariant-loop-d : goal.invariant-loop-d
+invariant-loop-d l = (l.lo ≤ l.i) × (l.i ≤ l.hi) × (l.d ≤ l.n) × (count (stale_in l.lo l.i l.marks) ≡ l.d)
+
+abbrev pub decreases-loop-d : goal.decreases-loop-d
+decreases-loop-d l = l.hi - l.i

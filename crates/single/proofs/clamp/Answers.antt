@@ -1,0 +1,15 @@
+-- `single::clamp` meets its contract. Assumes nothing.
+use Rattle.single.specs.Single.{clamp_of}
+use Rattle.single.proofs.clamp.Goals as goal
+
+pub returns-then-x-lo : goal.returns-then-x-lo
+unfolding clamp_of
+returns-then-x-lo c = rw c.if-x-lo.true
+
+pub returns-then-x-hi : goal.returns-then-x-hi
+unfolding clamp_of
+returns-then-x-hi c = rw (c.if-x-lo.false, c.if-x-hi.true)
+
+pub returns : goal.returns
+unfolding clamp_of
+returns c = rw (c.if-x-lo.false, c.if-x-hi.false)

@@ -1,0 +1,13 @@
+-- What the loop keeps, and its measure.
+use Prim.Native.Nat.{◌+◌, ◌-◌, ◌≤◌, ◌<◌}
+use native.Mathlib.Omega.{arith}
+use borrow.Author.Rules.{rules}
+use Rattle.marks.specs.Marks.{Clear}
+use Rattle.marks.proofs.Parts.{part_row, clear_rows}
+use Rattle.stale_search.proofs.first_row.Given as goal
+
+abbrev pub invariant-loop-r : goal.invariant-loop-r
+invariant-loop-r l = (l.y ≤ l.r) × ((l.r < l.bottom) × Clear l.w l.x l.end l.y l.r l.marks)
+
+abbrev pub decreases-loop-r : goal.decreases-loop-r
+decreases-loop-r l = l.bottom - l.r

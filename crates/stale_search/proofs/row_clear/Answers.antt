@@ -1,0 +1,17 @@
+-- `stale_search::row_clear` meets its contract. Assumes nothing.
+use mathlib.Core.Path.{sym, ◌∙◌}
+use Prim.Native.Nat.{◌+◌, ◌*◌}
+use native.Mathlib.Omega.{arith}
+use borrow.Author.Rules.{rules}
+use borrow.Author.Tests.{eqb-true}
+use Rattle.marks.proofs.Counts.{none_clear}
+use Rattle.marks.proofs.Parts.{room, clear_row}
+use Rattle.stale_search.proofs.row_clear.Goals as goal
+
+pub returns : goal.returns
+returns c t =
+    let a = c.args in
+    let r = room a.y c.requires (omega arith) in
+    clear_row a.w a.marks.now a.x a.end a.y
+    (none_clear (a.y * a.w + a.x) (a.y * a.w + a.end) a.marks.now
+    (sym c.count_stale.ensures ∙ eqb-true c.count_stale.result 0 t) (omega arith))

@@ -1,0 +1,14 @@
+-- What the loop keeps, and its measure.
+use mathlib.Core.Path.{◌≡◌, subst}
+use Prim.Native.Nat.{ℕ, ◌+◌, ◌-◌, ◌≤◌, ◌<◌}
+use native.Mathlib.Omega.{arith}
+use borrow.Author.Rules.{rules}
+use Rattle.marks.specs.Marks.{Clear}
+use Rattle.marks.proofs.Parts.{part_row, clear_rows}
+use Rattle.stale_search.proofs.row_end.Given as goal
+
+abbrev pub invariant-loop-r : goal.invariant-loop-r
+invariant-loop-r l = (l.y < l.r) × ((l.r ≤ l.bottom) × Clear l.w l.x l.end l.r l.bottom l.marks)
+
+abbrev pub decreases-loop-r : goal.decreases-loop-r
+decreases-loop-r l = l.r - l.y
