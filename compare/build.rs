@@ -4,7 +4,7 @@
 //! it `../shared/docs/src` beside the repository is tried. Where both files are found, the cfg `original` is set. Where one
 //! is not, the program is built all the same, without the subcommands that need the original: it says so when it is asked
 //! for one of them, with the folder in which the original was sought, and fails where `CI` is set and not empty.
-//! `PANEL_LIBRARY` names the folder of `libpanel.a`; without it the repository's `crates/panel/out`.
+//! `PANEL_LIBRARY` names the folder of `libpanel.a`; without it the repository's `target/staticlib`.
 
 use std::env;
 use std::fs;
@@ -21,7 +21,7 @@ fn main() {
         env::var(name).map_or_else(|_| repository.join(default), PathBuf::from)
     };
     println!("cargo:rerun-if-changed=src/stages.in");
-    link(&named("PANEL_LIBRARY", "crates/panel/out"));
+    link(&named("PANEL_LIBRARY", "target/staticlib"));
     println!("cargo:rustc-check-cfg=cfg(original)");
     let scaling = named("PANEL_ORIGINAL", "../shared/docs/src").join("src/scaling");
     // these two are looked at again at the next build, also where they are not there yet

@@ -1,7 +1,7 @@
 /*
  * Settings of clarity through the C face: a picture three and nine times, which settings are lawful, and a session that
  * keeps its own. Every answer is held to what it must be.
- * Build in the repository: gcc -std=c99 -Iinclude examples/clarity.c crates/panel/out/libpanel.a -o clarity
+ * Build in the repository: gcc -std=c99 -Iinclude examples/clarity.c target/staticlib/libpanel.a -o clarity
  * Build in the archive:    gcc -std=c99 -Iinclude examples/clarity.c lib/libpanel.a -o clarity
  */
 #include <inttypes.h>

@@ -2,7 +2,7 @@
  * A nine-times session through the C face: a page drawn in slices, a block of 81 words, a cursor, a legend that is
  * locked, lists of paints, the settings of clarity, and what is refused. Every answer is held to what it must be.
  * panel.c beside this file has the three-times session.
- * Build in the repository: gcc -std=c99 -Iinclude examples/nine.c crates/panel/out/libpanel.a -o nine
+ * Build in the repository: gcc -std=c99 -Iinclude examples/nine.c target/staticlib/libpanel.a -o nine
  * Build in the archive:    gcc -std=c99 -Iinclude examples/nine.c lib/libpanel.a -o nine
  */
 #include <inttypes.h>

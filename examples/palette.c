@@ -3,7 +3,7 @@
  * three and nine times, and what is refused. Every answer is held to what it must be.
  * With the name of a page file it prints that page three times as large on this glass, in the text of page3x, which
  * pages/look of the repository draws: palette pages/offset.page | pages/look -o OUT.png
- * Build in the repository: gcc -std=c99 -Iinclude examples/palette.c crates/panel/out/libpanel.a -o palette
+ * Build in the repository: gcc -std=c99 -Iinclude examples/palette.c target/staticlib/libpanel.a -o palette
  * Build in the archive:    gcc -std=c99 -Iinclude examples/palette.c lib/libpanel.a -o palette
  */
 #include <inttypes.h>

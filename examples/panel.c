@@ -1,7 +1,7 @@
 /*
  * A small session, a legend that is locked, a bar graph, a whole picture three and nine times, and a page file, through
  * the C face. Every answer is held to what it must be. clarity.c beside this file has the settings of clarity.
- * Build in the repository: gcc -std=c99 -Iinclude examples/panel.c crates/panel/out/libpanel.a -lm -o panel
+ * Build in the repository: gcc -std=c99 -Iinclude examples/panel.c target/staticlib/libpanel.a -lm -o panel
  * Build in the archive:    gcc -std=c99 -Iinclude examples/panel.c lib/libpanel.a -lm -o panel
  * -lm is for fegetround, which this program calls; the library does not need it.
  */

@@ -1,5 +1,5 @@
 -- Blocks stored side by side, row after row, in an output of rows of ow words, and the room that they ask for. Definitions only.
-use Rattle.std.specs.Prelude.{◌≡◌, Bool, cond, List, [], ◌∷◌, ℕ, zero, suc, ◌+◌, ◌*◌, ◌≤◌, ◌<◌, get_or, set}
+use Rattle.std.specs.Prelude.{List, ℕ, zero, suc, ◌+◌, ◌*◌, ◌≤◌, ◌<◌}
 use Rattle.block.specs.Drawn.{put_block, Plain}
 
 -- the first n blocks of a row, side by side from `at` on

@@ -11,7 +11,7 @@ use Rattle.header.specs.declared.Header.{Header}
 use Rattle.header.specs.Header.{locked}
 use Rattle.header.proofs.Laws.{locked_inside}
 use Rattle.machine.specs.Screen.{Screen, Lawful}
-use Rattle.machine.specs.Machine.{State, Call, Paint, PaintList, Refresh, Show, Answer, store, step, after}
+use Rattle.machine.specs.Machine.{State, Call, Paint, PaintList, Refresh, Answer, store, step, after}
 use Rattle.machine.specs.Claims.{LocksNothing, none, paint, paint_list, refresh, show, LockedStays}
 use Rattle.machine.specs.Demand3.{Buffers, Ran, Trace}
 use Rattle.machine.proofs.Places.{block_lt, digits_same}

@@ -3,7 +3,6 @@
 use Rattle.std.specs.Prelude.{◌≡◌, false, ℕ, ◌/◌, ◌%◌, ◌≤◌, pos, negsuc, Float}
 use Rattle.std.specs.Float.{fin, binary32}
 use Rattle.std.specs.Float.Ieee.{add, mul, div, to_unsigned}
-use Rattle.tag.specs.declared.Tags.{Tags}
 use Rattle.tag.specs.Tag.{JunctionFlags, corner_tag, mid_tag, trace_flags}
 
 -- a tag number gives back its corner tag and its mid-edge tag

@@ -1,7 +1,7 @@
 -- Laws of section 5's tags: their range, that a number gives its two tags back, how far an offset reaches, and the tag at corner 0 that the
 -- table asks for. Assumes nothing.
-use Rattle.std.specs.Prelude.{◌≡◌, Bool, true, false, T, leb}
-use Prim.Native.Nat.{ℕ, zero, suc, ◌/◌, ◌%◌, ◌≤◌}
+use Rattle.std.specs.Prelude.{Bool, true, false, T, leb}
+use Prim.Native.Nat.{ℕ, zero, suc, ◌≤◌}
 use Rattle.std.proofs.Common.{arith, lit≤}
 use Rattle.picture.specs.Local.{reaches}
 use Rattle.junction.specs.declared.Junctions.{Junctions}

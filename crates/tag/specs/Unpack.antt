@@ -1,5 +1,5 @@
 -- What `Claims.antt` says of tag numbers. Assumes nothing.
-use Rattle.std.specs.Prelude.{◌≡◌, Bool, true, false, ◌&&◌, ℕ, zero, suc, ◌≤◌, ◌<◌, T, eqb}
+use Rattle.std.specs.Prelude.{◌≡◌, Bool, true, ◌&&◌, ℕ, zero, suc, ◌≤◌, ◌<◌, T, eqb}
 use Rattle.std.proofs.Common.{sym, subst, ⊎_elim, eq-or-lt_of_le, arith, eqb→eq}
 use Rattle.std.specs.Float.Ieee.{add, mul, div, to_unsigned}
 use Rattle.std.specs.Float.Ieee.Fits.{and_l, and_r}

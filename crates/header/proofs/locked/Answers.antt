@@ -1,5 +1,4 @@
 -- `header::locked` meets its contract. Assumes nothing.
-use borrow.Author.Rules.{rules}
 use Rattle.header.specs.Header.{locked}
 use Rattle.header.proofs.locked.Goals as goal
 

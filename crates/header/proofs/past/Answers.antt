@@ -1,5 +1,4 @@
 -- `header::past` meets its contract. Assumes nothing.
-use borrow.Author.Rules.{rules}
 use Rattle.header.specs.Header.{past}
 use Rattle.header.proofs.past.Goals as goal
 

@@ -1,6 +1,5 @@
 -- `junction::junction_condition` meets its contract. Assumes nothing.
 use Rattle.junction.specs.Flags.{condition_of}
-use borrow.Author.Rules.{rules}
 use Rattle.junction.proofs.junction_condition.Goals as goal
 
 pub returns : goal.returns

@@ -1,6 +1,5 @@
 -- `junction::number` meets its contract. Assumes nothing.
 use Rattle.junction.specs.Flags.{number_of}
-use borrow.Author.Rules.{rules}
 use Rattle.junction.proofs.number.Goals as goal
 
 pub returns : goal.returns

@@ -3,7 +3,6 @@ use mathlib.Core.Path.{◌≡◌}
 use Prim.Native.Nat.{ℕ}
 use Rattle.junction.specs.declared.Junctions.{Junctions}
 use Rattle.junction.specs.Flags.{numbers_of}
-use borrow.Author.Rules.{rules}
 use Rattle.junction.proofs.numbers_of.Goals as goal
 
 made : {a b c d a' b' c' d' : ℕ} → a ≡ a' → b ≡ b' → c ≡ c' → d ≡ d'

@@ -1,5 +1,4 @@
 -- `lanes::above` meets its contract. Assumes nothing.
-use borrow.Author.Rules.{rules}
 use mathlib.Core.Path.{refl}
 use Rattle.lanes.specs.Lanes.{above}
 use Rattle.lanes.proofs.above.Goals as goal

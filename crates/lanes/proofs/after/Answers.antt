@@ -1,5 +1,4 @@
 -- `lanes::after` meets its contract. Assumes nothing.
-use borrow.Author.Rules.{rules}
 use Rattle.lanes.specs.Lanes.{after}
 use Rattle.lanes.proofs.after.Goals as goal
 

@@ -1,5 +1,4 @@
 -- `lanes::beside` meets its contract. Assumes nothing.
-use borrow.Author.Rules.{rules}
 use mathlib.Core.Path.{refl}
 use Rattle.lanes.specs.Lanes.{beside}
 use Rattle.lanes.proofs.beside.Goals as goal

@@ -1,5 +1,4 @@
 -- `lanes::down` meets its contract. Assumes nothing.
-use borrow.Author.Rules.{rules}
 use mathlib.Core.Path.{refl}
 use Rattle.lanes.specs.Lanes.{down}
 use Rattle.lanes.proofs.down.Goals as goal

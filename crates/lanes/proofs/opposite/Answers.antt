@@ -1,5 +1,4 @@
 -- `lanes::opposite` meets its contract. Assumes nothing.
-use borrow.Author.Rules.{rules}
 use mathlib.Core.Path.{refl}
 use Rattle.lanes.specs.Lanes.{opposite}
 use Rattle.lanes.proofs.opposite.Goals as goal

@@ -1,5 +1,4 @@
 -- `lanes::own` meets its contract. Assumes nothing.
-use borrow.Author.Rules.{rules}
 use mathlib.Core.Path.{refl}
 use Rattle.lanes.specs.Lanes.{own}
 use Rattle.lanes.proofs.own.Goals as goal

@@ -1,5 +1,4 @@
 -- `level::around` meets its contract. Assumes nothing.
-use borrow.Author.Rules.{rules}
 use Rattle.tag.specs.Words.{around_of}
 use Rattle.level.proofs.around.Goals as goal
 

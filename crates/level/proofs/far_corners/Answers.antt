@@ -1,5 +1,4 @@
 -- `level::far_corners` meets its contract. Assumes nothing.
-use borrow.Author.Rules.{rules}
 use Rattle.tag.specs.Words.{far_corners}
 use Rattle.lanes.specs.Lanes.{lanes}
 use Rattle.level.proofs.far_corners.Goals as goal

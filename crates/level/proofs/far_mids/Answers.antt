@@ -1,5 +1,4 @@
 -- `level::far_mids` meets its contract. Assumes nothing.
-use borrow.Author.Rules.{rules}
 use Rattle.tag.specs.Words.{far_mids}
 use Rattle.lanes.specs.Lanes.{lanes}
 use Rattle.level.proofs.far_mids.Goals as goal

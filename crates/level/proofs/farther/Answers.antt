@@ -1,5 +1,4 @@
 -- `level::farther` meets its contract. Assumes nothing.
-use borrow.Author.Rules.{rules}
 use Rattle.tag.specs.Words.{far_of}
 use Rattle.level.proofs.farther.Goals as goal
 

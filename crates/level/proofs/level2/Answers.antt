@@ -1,5 +1,4 @@
 -- `level::level2` meets its contract. Assumes nothing.
-use borrow.Author.Rules.{rules}
 use Rattle.tag.specs.Words.{level2_of}
 use Rattle.level.proofs.level2.Goals as goal
 

@@ -1,5 +1,4 @@
 -- `level::level3` meets its contract. Assumes nothing.
-use borrow.Author.Rules.{rules}
 use Rattle.tag.specs.Words.{level3_of}
 use Rattle.level.proofs.level3.Goals as goal
 

@@ -1,5 +1,4 @@
 -- `level::level4` meets its contract. Assumes nothing.
-use borrow.Author.Rules.{rules}
 use Rattle.tag.specs.Words.{level4_of}
 use Rattle.level.proofs.level4.Goals as goal
 

@@ -1,5 +1,4 @@
 -- `level::level4_near` meets its contract. Assumes nothing.
-use borrow.Author.Rules.{rules}
 use Rattle.tag.specs.Words.{level4_near}
 use Rattle.level.proofs.level4_near.Goals as goal
 

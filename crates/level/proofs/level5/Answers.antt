@@ -1,5 +1,4 @@
 -- `level::level5` meets its contract. Assumes nothing.
-use borrow.Author.Rules.{rules}
 use Rattle.tag.specs.Words.{level5_of}
 use Rattle.level.proofs.level5.Goals as goal
 

@@ -1,5 +1,4 @@
 -- `level::level6` meets its contract. Assumes nothing.
-use borrow.Author.Rules.{rules}
 use Rattle.tag.specs.Words.{level6_of}
 use Rattle.level.proofs.level6.Goals as goal
 

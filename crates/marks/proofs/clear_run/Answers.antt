@@ -1,11 +1,8 @@
 -- `marks::clear_run` meets its contract. The first i blocks are cleared. Assumes nothing.
-use mathlib.Core.Path.{◌≡◌, refl, ◌∙◌, subst}
-use Prim.Native.Nat.{ℕ, ◌+◌, ◌-◌, ◌≤◌}
+use mathlib.Core.Path.{◌∙◌}
+use Prim.Native.Nat.{◌+◌}
 use native.Mathlib.Omega.{arith}
-use borrow.Author.Rules.{rules}
-use lib.ListN.{length, length-set}
-use Rattle.machine.specs.Lists.{set_all}
-use Rattle.marks.specs.Marks.{blocks_from}
+use lib.ListN.{length-set}
 use Rattle.marks.proofs.Counts.{clear_more}
 use Rattle.marks.proofs.clear_run.Goals as goal
 

@@ -1,12 +1,9 @@
 -- What the loop keeps, and its measure.
-use mathlib.Core.Path.{◌≡◌, refl, ◌∙◌, subst}
-use Prim.Native.Nat.{ℕ, ◌+◌, ◌-◌, ◌≤◌}
-use native.Mathlib.Omega.{arith}
-use borrow.Author.Rules.{rules}
-use lib.ListN.{length, length-set}
+use mathlib.Core.Path.{◌≡◌}
+use Prim.Native.Nat.{◌-◌, ◌≤◌}
+use lib.ListN.{length}
 use Rattle.machine.specs.Lists.{set_all}
 use Rattle.marks.specs.Marks.{blocks_from}
-use Rattle.marks.proofs.Counts.{clear_more}
 use Rattle.marks.proofs.clear_run.Given as goal
 
 abbrev pub invariant-loop-i : goal.invariant-loop-i

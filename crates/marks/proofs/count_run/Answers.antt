@@ -1,15 +1,12 @@
 -- `marks::count_run` meets its contract. The loop has counted the stale marks from lo up to i. Assumes nothing.
-use mathlib.Core.Path.{◌≡◌, refl, sym, ◌∙◌, ap}
+use mathlib.Core.Path.{refl}
 use mathlib.Core.List.{[], ◌∷◌}
-use Prim.Native.Nat.{ℕ, ◌+◌, ◌-◌, ◌≤◌}
+use Prim.Native.Nat.{◌+◌}
 use native.Mathlib.Omega.{arith}
-use borrow.Author.Rules.{rules}
 use lib.ListN.{get_or}
-use Rattle.machine.specs.Lists.{count}
 use Rattle.machine.specs.Calls.{is_stale}
-use Rattle.marks.specs.Marks.{stale_in}
 use Rattle.machine.proofs.Lists.{count_le}
-use Rattle.marks.proofs.Counts.{count_none, count_one, count_split}
+use Rattle.marks.proofs.Counts.{count_one, count_split}
 use Rattle.marks.proofs.count_run.Goals as goal
 
 pub loop-i-preserved : goal.loop-i-preserved

@@ -1,15 +1,8 @@
 -- What the loop keeps, and its measure.
-use mathlib.Core.Path.{◌≡◌, refl, sym, ◌∙◌, ap}
-use mathlib.Core.List.{[], ◌∷◌}
-use Prim.Native.Nat.{ℕ, ◌+◌, ◌-◌, ◌≤◌}
-use native.Mathlib.Omega.{arith}
-use borrow.Author.Rules.{rules}
-use lib.ListN.{get_or}
+use mathlib.Core.Path.{◌≡◌}
+use Prim.Native.Nat.{◌-◌, ◌≤◌}
 use Rattle.machine.specs.Lists.{count}
-use Rattle.machine.specs.Calls.{is_stale}
 use Rattle.marks.specs.Marks.{stale_in}
-use Rattle.machine.proofs.Lists.{count_le}
-use Rattle.marks.proofs.Counts.{count_none, count_one, count_split}
 use Rattle.marks.proofs.count_run.Given as goal
 
 abbrev pub invariant-loop-i : goal.invariant-loop-i

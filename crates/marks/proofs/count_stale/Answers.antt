@@ -1,12 +1,11 @@
 -- `marks::count_stale` meets its contract. The loop has counted the stale marks before i. Assumes nothing.
 use mathlib.Core.Path.{◌≡◌, sym, ◌∙◌, ap₂}
 use mathlib.Core.List.{List}
-use Prim.Native.Nat.{ℕ, ◌+◌, ◌-◌, ◌≤◌}
+use Prim.Native.Nat.{ℕ, ◌+◌, ◌≤◌}
 use native.Mathlib.Omega.{arith}
-use borrow.Author.Rules.{rules}
 use Rattle.machine.specs.Lists.{count}
 use Rattle.marks.specs.Marks.{stale_in}
-use Rattle.marks.proofs.Counts.{count_none, count_split, count_run_le}
+use Rattle.marks.proofs.Counts.{count_split, count_run_le}
 use Rattle.marks.proofs.count_stale.Goals as goal
 
 -- those before i and those from i on

@@ -1,12 +1,8 @@
 -- What the loop keeps, and its measure.
-use mathlib.Core.Path.{◌≡◌, sym, ◌∙◌, ap₂}
-use mathlib.Core.List.{List}
-use Prim.Native.Nat.{ℕ, ◌+◌, ◌-◌, ◌≤◌}
-use native.Mathlib.Omega.{arith}
-use borrow.Author.Rules.{rules}
+use mathlib.Core.Path.{◌≡◌}
+use Prim.Native.Nat.{◌-◌, ◌≤◌}
 use Rattle.machine.specs.Lists.{count}
 use Rattle.marks.specs.Marks.{stale_in}
-use Rattle.marks.proofs.Counts.{count_none, count_split, count_run_le}
 use Rattle.marks.proofs.count_stale.Given as goal
 
 abbrev pub invariant-loop-i : goal.invariant-loop-i

@@ -1,14 +1,12 @@
 -- `marks::mark_box` meets its contract. The box's rows from y on are left to do. Assumes nothing.
-use mathlib.Core.Path.{◌≡◌, refl, sym, ap, ap₂, ◌∙◌}
-use Prim.Native.Nat.{ℕ, ◌+◌, ◌-◌, ◌*◌, ◌≤◌, min}
+use mathlib.Core.Path.{◌≡◌, sym, ap, ap₂, ◌∙◌}
+use Prim.Native.Nat.{ℕ, ◌+◌, ◌-◌, ◌*◌, min}
 use native.Mathlib.Omega.{arith}
-use borrow.Author.Rules.{rules}
 use lib.ListN.{length}
 use Rattle.machine.specs.Lists.{stamp}
-use Rattle.marks.specs.Marks.{run, boxed}
-use Rattle.marks.proofs.Box.{from, box_start, box_step, box_end}
+use Rattle.marks.specs.Marks.{run}
+use Rattle.marks.proofs.Box.{from, box_step, box_end}
 use Rattle.machine.proofs.Lists.{length_stamp}
-use Rattle.machine.proofs.Places.{area, row_end}
 use Rattle.marks.proofs.mark_box.Goals as goal
 
 pub loop-y-preserved : goal.loop-y-preserved

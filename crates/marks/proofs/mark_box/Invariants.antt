@@ -1,14 +1,10 @@
 -- What the loop keeps, and its measure.
-use mathlib.Core.Path.{◌≡◌, refl, sym, ap, ap₂, ◌∙◌}
-use Prim.Native.Nat.{ℕ, ◌+◌, ◌-◌, ◌*◌, ◌≤◌, min}
-use native.Mathlib.Omega.{arith}
-use borrow.Author.Rules.{rules}
+use mathlib.Core.Path.{◌≡◌}
+use Prim.Native.Nat.{◌+◌, ◌-◌, ◌≤◌, min}
 use lib.ListN.{length}
 use Rattle.machine.specs.Lists.{stamp}
-use Rattle.marks.specs.Marks.{run, boxed}
-use Rattle.marks.proofs.Box.{from, box_start, box_step, box_end}
-use Rattle.machine.proofs.Lists.{length_stamp}
-use Rattle.machine.proofs.Places.{area, row_end}
+use Rattle.marks.specs.Marks.{boxed}
+use Rattle.marks.proofs.Box.{from}
 use Rattle.marks.proofs.mark_box.Given as goal
 
 abbrev pub invariant-loop-y : goal.invariant-loop-y

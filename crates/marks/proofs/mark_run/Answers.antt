@@ -1,12 +1,8 @@
 -- `marks::mark_run` meets its contract. The marks from i on are left to do. Assumes nothing.
-use mathlib.Core.Path.{◌≡◌, sym, ◌∙◌}
-use Prim.Native.Nat.{◌-◌, ◌≤◌}
+use mathlib.Core.Path.{sym, ◌∙◌}
 use native.Mathlib.Omega.{arith}
-use lib.ListN.{length, length-set}
-use Rattle.machine.specs.Lists.{stamp}
-use Rattle.marks.specs.Marks.{run}
+use lib.ListN.{length-set}
 use Rattle.marks.proofs.Box.{run_step, run_end}
-use borrow.Author.Rules.{rules}
 use Rattle.marks.proofs.mark_run.Goals as goal
 
 pub loop-i-preserved : goal.loop-i-preserved

@@ -1,12 +1,9 @@
 -- What the loop keeps, and its measure.
-use mathlib.Core.Path.{◌≡◌, sym, ◌∙◌}
+use mathlib.Core.Path.{◌≡◌}
 use Prim.Native.Nat.{◌-◌, ◌≤◌}
-use native.Mathlib.Omega.{arith}
-use lib.ListN.{length, length-set}
+use lib.ListN.{length}
 use Rattle.machine.specs.Lists.{stamp}
 use Rattle.marks.specs.Marks.{run}
-use Rattle.marks.proofs.Box.{run_step, run_end}
-use borrow.Author.Rules.{rules}
 use Rattle.marks.proofs.mark_run.Given as goal
 
 abbrev pub invariant-loop-i : goal.invariant-loop-i

@@ -1,15 +1,12 @@
 -- `marks::stale_end` meets its contract. The marks from lo up to i have d stale ones. Assumes nothing.
-use mathlib.Core.Path.{◌≡◌, refl}
+use mathlib.Core.Path.{refl}
 use mathlib.Core.List.{[], ◌∷◌}
-use Prim.Native.Nat.{◌+◌, ◌-◌, ◌≤◌, ◌<◌}
+use Prim.Native.Nat.{◌+◌, ◌≤◌, ◌<◌}
 use native.Mathlib.Omega.{arith}
-use borrow.Author.Rules.{rules}
 use lib.ListN.{get_or}
-use Rattle.machine.specs.Lists.{count}
 use Rattle.machine.specs.Calls.{is_stale}
 use Rattle.machine.proofs.Lists.{count_le}
-use Rattle.marks.specs.Marks.{stale_in}
-use Rattle.marks.proofs.Counts.{count_none, count_one, count_split, run_left}
+use Rattle.marks.proofs.Counts.{count_one, count_split, run_left}
 use Rattle.marks.proofs.stale_end.Goals as goal
 
 -- at most one more is counted

@@ -2,11 +2,8 @@
 use mathlib.Core.Path.{◌≡◌}
 use mathlib.Core.Bool.{true}
 use Prim.Native.Nat.{◌+◌, ◌-◌, ◌<◌, ◌≤◌}
-use native.Mathlib.Omega.{arith}
-use borrow.Author.Rules.{rules}
 use lib.ListN.{replicate}
 use Rattle.marks.specs.Marks.{stale_in}
-use Rattle.marks.proofs.Counts.{run_first, run_more}
 use Rattle.marks.proofs.stale_run.Given as goal
 
 abbrev pub invariant-loop-k : goal.invariant-loop-k

@@ -1,7 +1,6 @@
 -- `metric::color_distance` meets its contract: words with equal low 24 bits have the distance 0. Assumes nothing.
 use mathlib.Core.Path.{sym, ◌∙◌}
 use lib.Ieee.{of_bits}
-use borrow.Author.Rules.{rules}
 use Rattle.metric.proofs.Distances.{zero_where}
 use Rattle.metric.proofs.color_distance.Goals as goal
 

@@ -4,7 +4,6 @@ use Prim.Native.Nat.{ℕ, ◌%◌, ◌^◌}
 use mathlib.Core.Bool.{Bool, true, ◌&&◌}
 use lib.Dec.{eqb}
 use lib.Ieee.{Float, of_bits}
-use borrow.Author.Rules.{rules}
 use Rattle.single.specs.Single.{f0}
 use Rattle.metric.specs.declared.Metric.{Metric}
 use Rattle.metric.specs.Metric.{metric_of}

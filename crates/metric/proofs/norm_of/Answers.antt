@@ -8,7 +8,6 @@ use lib.Dec.{T, eqb, eqb→eq}
 use lib.Ieee.{Float, fin, binary32, sub, of_int, of_bits, to_bits, nan_bits}
 use lib.Ieee.Bits.{of_bits-to_bits}
 use lib.Ieee.Fits.{and_l, and_r, sub-fits, of_int-fits}
-use borrow.Author.Rules.{rules}
 use Rattle.single.specs.Single.{◌⊖◌}
 use Rattle.metric.specs.Distance.{norm}
 use Rattle.metric.proofs.Channels.{every, at}

@@ -3,7 +3,6 @@ use mathlib.Core.Path.{◌≡◌, sym, subst}
 use Prim.Native.Nat.{ℕ}
 use lib.Dec.{T}
 use lib.Ieee.{Float, of_bits}
-use borrow.Author.Rules.{rules}
 use Rattle.single.specs.Single.{f0, max_of}
 use Rattle.single.specs.Root.{rooted}
 use Rattle.channels.specs.Channels.{red_of, green_of, blue_of}

@@ -1,11 +1,8 @@
 -- `paint_refusals::refuse_items` meets its contract. Assumes nothing.
-use mathlib.Core.Path.{◌≡◌, refl, sym, ap, ◌∙◌}
-use Prim.Native.Nat.{◌-◌, ◌≤◌}
+use mathlib.Core.Path.{sym, ap, ◌∙◌}
 use native.Mathlib.Omega.{arith}
-use lib.ListN.{take, drop}
-use borrow.Author.Rules.{rules}
 use Rattle.paints.specs.Paints.{blank}
-use Rattle.paints.proofs.Laws.{next_item, no_item}
+use Rattle.paints.proofs.Laws.{next_item}
 use Rattle.machine.specs.Items.{refusal_items}
 use Rattle.machine.proofs.ListEnds.{first_of, second_of}
 use Rattle.paint_refusals.proofs.refuse_items.Goals as goal

@@ -1,13 +1,8 @@
 -- What the loop keeps, and its measure.
-use mathlib.Core.Path.{◌≡◌, refl, sym, ap, ◌∙◌}
+use mathlib.Core.Path.{◌≡◌}
 use Prim.Native.Nat.{◌-◌, ◌≤◌}
-use native.Mathlib.Omega.{arith}
 use lib.ListN.{take, drop}
-use borrow.Author.Rules.{rules}
-use Rattle.paints.specs.Paints.{blank}
-use Rattle.paints.proofs.Laws.{next_item, no_item}
 use Rattle.machine.specs.Items.{refusal_items}
-use Rattle.machine.proofs.ListEnds.{first_of, second_of}
 use Rattle.paint_refusals.proofs.refuse_items.Given as goal
 
 -- the items before i are not refused, so those from i on decide

@@ -1,6 +1,4 @@
 -- `single::parts_of` meets its contract: `Nearest.antt` has each fact. Assumes nothing.
-use native.Mathlib.Omega.{arith}
-use borrow.Author.Rules.{rules}
 use Rattle.single.proofs.Nearest.{low_shift, low_parts, high_parts}
 use Rattle.single.proofs.parts_of.Goals as goal
 

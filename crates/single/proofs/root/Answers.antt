@@ -1,9 +1,9 @@
 -- `single::root` meets its contract: a NaN, and nothing else, differs from itself; and the patterns below 0x7f80_0000 are those of the values that have a root. Assumes nothing.
 use mathlib.Core.Path.{◌≡◌, sym, subst}
 use native.Mathlib.Omega.{arith}
-use mathlib.Core.Bool.{Bool, true, false, not, true≢false}
+use mathlib.Core.Bool.{Bool, false, not}
 use lib.Dec.{T, not_T}
-use lib.Ieee.{Float, nan, inf, fin, binary32, of_bits, fits, is_nan, eq, ne}
+use lib.Ieee.{Float, nan, binary32, of_bits, fits, eq, ne}
 use lib.Ieee.Compare.{differs_from_itself}
 use lib.Ieee.Bits.{is_true, is_false}
 use Rattle.single.specs.Root.{rooted, root_answer}

@@ -1,6 +1,5 @@
 -- `single::root_bits` meets its contract: `Nearest.antt` has each fact. Assumes nothing.
 use mathlib.Core.Path.{◌≡◌, refl, sym, ap, ◌∙◌}
-use borrow.Author.Rules.{rules}
 use Rattle.single.specs.Root.{root_bits}
 use Rattle.single.proofs.Nearest.{scale_in, scaled_root}
 use Rattle.single.proofs.root_bits.Goals as goal

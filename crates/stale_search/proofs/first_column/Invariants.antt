@@ -1,11 +1,6 @@
 -- What the loop keeps, and its measure.
-use mathlib.Core.Path.{◌≡◌, subst}
-use Prim.Native.Nat.{ℕ, ◌-◌, ◌≤◌}
-use native.Mathlib.Omega.{arith}
-use borrow.Author.Rules.{rules}
-use borrow.Author.Tests.{ltb-false}
+use Prim.Native.Nat.{◌-◌, ◌≤◌}
 use Rattle.marks.specs.Marks.{Clear}
-use Rattle.marks.proofs.Parts.{Room, room, no_columns, left_more}
 use Rattle.stale_search.proofs.first_column.Given as goal
 
 abbrev pub invariant-loop-j : goal.invariant-loop-j

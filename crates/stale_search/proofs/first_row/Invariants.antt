@@ -1,9 +1,6 @@
 -- What the loop keeps, and its measure.
-use Prim.Native.Nat.{◌+◌, ◌-◌, ◌≤◌, ◌<◌}
-use native.Mathlib.Omega.{arith}
-use borrow.Author.Rules.{rules}
+use Prim.Native.Nat.{◌-◌, ◌≤◌, ◌<◌}
 use Rattle.marks.specs.Marks.{Clear}
-use Rattle.marks.proofs.Parts.{part_row, clear_rows}
 use Rattle.stale_search.proofs.first_row.Given as goal
 
 abbrev pub invariant-loop-r : goal.invariant-loop-r

@@ -1,12 +1,6 @@
 -- What the loop keeps, and its measure.
-use mathlib.Core.Path.{refl}
-use Prim.Native.Nat.{◌+◌, ◌-◌}
-use native.Mathlib.Omega.{arith}
-use borrow.Author.Rules.{rules}
-use borrow.Author.Tests.{eqb-true}
-use lib.ListN.{get_or}
+use Prim.Native.Nat.{◌-◌}
 use Rattle.marks.specs.Marks.{ClearUpTo}
-use Rattle.marks.proofs.Parts.{run_one, up_more}
 use Rattle.stale_search.proofs.first_stale.Given as goal
 
 abbrev pub invariant-loop-i : goal.invariant-loop-i

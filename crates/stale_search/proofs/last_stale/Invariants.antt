@@ -1,11 +1,6 @@
 -- What the loop keeps, and its measure.
 use Prim.Native.Nat.{◌-◌}
-use native.Mathlib.Omega.{arith}
-use borrow.Author.Rules.{rules}
-use borrow.Author.Tests.{eqb-true}
-use lib.ListN.{get_or}
 use Rattle.marks.specs.Marks.{ClearFrom}
-use Rattle.marks.proofs.Parts.{run_one, down_none, down_more}
 use Rattle.stale_search.proofs.last_stale.Given as goal
 
 abbrev pub invariant-loop-i : goal.invariant-loop-i

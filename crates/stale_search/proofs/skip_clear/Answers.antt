@@ -1,12 +1,9 @@
 -- `stale_search::skip_clear` meets its contract. The marks before i are not stale. Assumes nothing.
 use mathlib.Core.Path.{sym, ◌∙◌}
-use Prim.Native.Nat.{◌+◌, ◌-◌}
+use Prim.Native.Nat.{◌+◌}
 use native.Mathlib.Omega.{arith}
-use borrow.Author.Rules.{rules}
-use borrow.Author.Tests.{eqb-true}
-use Rattle.marks.specs.Marks.{ClearUpTo}
 use Rattle.marks.proofs.Counts.{none_clear}
-use Rattle.marks.proofs.Parts.{up_none, up_more}
+use Rattle.marks.proofs.Parts.{up_more}
 use Rattle.stale_search.proofs.skip_clear.Goals as goal
 
 pub loop-i-preserved : goal.loop-i-preserved

@@ -1,12 +1,6 @@
 -- What the loop keeps, and its measure.
-use mathlib.Core.Path.{sym, ◌∙◌}
-use Prim.Native.Nat.{◌+◌, ◌-◌}
-use native.Mathlib.Omega.{arith}
-use borrow.Author.Rules.{rules}
-use borrow.Author.Tests.{eqb-true}
+use Prim.Native.Nat.{◌-◌}
 use Rattle.marks.specs.Marks.{ClearUpTo}
-use Rattle.marks.proofs.Counts.{none_clear}
-use Rattle.marks.proofs.Parts.{up_none, up_more}
 use Rattle.stale_search.proofs.skip_clear.Given as goal
 
 abbrev pub invariant-loop-i : goal.invariant-loop-i

@@ -8,7 +8,6 @@ use Rattle.clarity.specs.declared.Clarity.TheVariants.{Standard, Threshold, Gate
 use Rattle.clarity.specs.Clarity.{threshold_of}
 use Rattle.weight.specs.Weight.{weight_at, gate_open, corner_weight_of}
 use Rattle.weight.specs.Plain.{gate_closed}
-use borrow.Author.Rules.{rules}
 use Rattle.weight.proofs.corner_weight.Goals as goal
 
 turned : (t : Bool) (x y : Float) → cond (not t) x y ≡ cond t y x

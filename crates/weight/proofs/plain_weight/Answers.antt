@@ -1,11 +1,10 @@
 -- `weight::plain_weight` meets its contract: `Zeros.antt` has the weight at each setting. Assumes nothing.
 use mathlib.Core.Path.{◌≡◌}
-use mathlib.Core.Bool.{Bool, true, ◌&&◌}
+use mathlib.Core.Bool.{true, ◌&&◌}
 use lib.Dec.{T}
 use lib.Ieee.{of_bits, eq}
 use lib.Ieee.Fits.{and_l, and_r}
 use lib.Ieee.Bits.{is_true}
-use borrow.Author.Rules.{rules}
 use Rattle.single.specs.Single.{f0}
 use Rattle.clarity.specs.Clarity.{lawful_of}
 use Rattle.weight.proofs.Zeros.{zero_standard, zero_threshold, zero_gated}

@@ -2,7 +2,6 @@
 use mathlib.Core.Path.{sym, ap}
 use lib.Ieee.{of_bits}
 use Rattle.clarity.specs.Clarity.{threshold_of}
-use borrow.Author.Rules.{rules}
 use Rattle.weight.proofs.threshold_of.Goals as goal
 
 pub returns-in-Standard : goal.returns-in-Standard

@@ -2,7 +2,6 @@
 use mathlib.Core.Path.{◌≡◌}
 use mathlib.Core.Bool.{cond}
 use lib.Ieee.{Float, of_bits, neg, lt}
-use borrow.Author.Rules.{rules}
 use Rattle.single.specs.Single.{f0, f1, ◌⊕◌, ◌⊖◌, ◌⊗◌, ◌⊘◌, max_of, min_of, clamp_of}
 use Rattle.weight.specs.Weight.{weight_at}
 use Rattle.weight.proofs.weight_at.Goals as goal

@@ -1,8 +1,6 @@
 -- `weight::weights_of` meets its contract. Assumes nothing.
 use mathlib.Core.Path.{◌≡◌, sym, ◌∙◌}
-use mathlib.Core.Bool.{Bool, true, ◌&&◌}
-use lib.Dec.{T}
-use borrow.Author.Rules.{rules}
+use mathlib.Core.Bool.{true}
 use Rattle.clarity.specs.Clarity.{lawful_of}
 use Rattle.weight.specs.Weight.{weights_of}
 use Rattle.metric.proofs.Channels.{both}

@@ -1,0 +1,26 @@
+-- `field::weights_at` meets its contract: the eight metrics are those near the pixel. Assumes nothing.
+use mathlib.Core.Path.{◌∙◌}
+use lib.IntN.{pos, negsuc}
+use Rattle.weight.specs.Weight.{weights}
+use Rattle.grid.specs.Grid.{metric_field}
+use Rattle.grid.proofs.Reading.{near_at}
+use Rattle.field.proofs.Same.{weights_same}
+use Rattle.field.proofs.weights_at.Goals as goal
+
+pub returns : goal.returns
+unfolding weights
+returns c =
+    let a = c.args in
+    let xs = c.three_at-xs.ensures in
+    let ys = c.three_at-ys.ensures in
+    let f0 = metric_field a.g a.s.now in
+    c.weights_of.ensures
+    ∙ weights_same a.clarity
+    (near_at f0 a.w a.h a.x a.y (negsuc 0) (negsuc 0) xs.before_is ys.before_is c.metric_in.ensures)
+    (near_at f0 a.w a.h a.x a.y (pos 0) (negsuc 0) xs.at_is ys.before_is c.metric_in-2.ensures)
+    (near_at f0 a.w a.h a.x a.y (negsuc 0) (pos 0) xs.before_is ys.at_is c.metric_in-3.ensures)
+    (near_at f0 a.w a.h a.x a.y (pos 0) (pos 0) xs.at_is ys.at_is c.metric_in-4.ensures)
+    (near_at f0 a.w a.h a.x a.y (pos 1) (pos 0) xs.after_is ys.at_is c.metric_in-5.ensures)
+    (near_at f0 a.w a.h a.x a.y (negsuc 0) (pos 1) xs.before_is ys.after_is c.metric_in-6.ensures)
+    (near_at f0 a.w a.h a.x a.y (pos 0) (pos 1) xs.at_is ys.after_is c.metric_in-7.ensures)
+    (near_at f0 a.w a.h a.x a.y (pos 1) (pos 1) xs.after_is ys.after_is c.metric_in-8.ensures)

@@ -1,0 +1,23 @@
+-- What the loop keeps, and its measure.
+use native.Mathlib.Omega.{arith}
+use mathlib.Core.Path.{◌≡◌, refl, sym, ◌∙◌, ap}
+use mathlib.Core.List.{List}
+use Prim.Native.Nat.{ℕ, ◌+◌, ◌*◌, ◌-◌, ◌≤◌}
+use lib.ListN.{take}
+use lib.Seq.{length-take-le}
+use Rattle.picture.specs.Fill.{Filled, fill_none, fill_more, fill_done, fill_take}
+use Rattle.tag.specs.Tag.{tags}
+use Rattle.grid.specs.declared.Grid.{Grid}
+use Rattle.grid.specs.Grid.{of_tags, junctions_field, row_of}
+use Rattle.grid.specs.Room.{reads_at, held_take}
+use Rattle.tagged.proofs.tags_row.Given as goal
+
+-- the record of each pixel of the row, from what l holds
+abbrev pub chunks : List ℕ → Grid → ℕ → ℕ → ℕ → ℕ → ℕ → List ℕ
+chunks l g w h x0 y i = of_tags (tags w h (junctions_field g l) (x0 + i) y)
+
+abbrev pub invariant-loop-x : goal.invariant-loop-x
+invariant-loop-x l = (l.x ≤ l.cols) × (l.i ≡ l.at + l.x * 4) × Filled l.at 4 l.x (chunks (take l.cut l.initial.bytes) l.g l.w l.h l.x0 l.y) l.initial.bytes l.bytes
+
+abbrev pub decreases-loop-x : goal.decreases-loop-x
+decreases-loop-x l = l.cols - l.x
