@@ -1,21 +1,16 @@
 -- Copies of pixels in the output: what a row copied three times over holds, that the blocks before one leave it as it is, and that a block
 -- of copies in which the words of its tags are stored is its block. Assumes nothing.
 use mathlib.Core.Path.{◌≡◌, refl, sym, ◌∙◌, ap}
-use mathlib.Core.Bool.{Bool, true, false}
 use mathlib.Core.List.{List, [], ◌∷◌}
-use Prim.Native.Nat.{ℕ, zero, suc, ◌+◌, ◌*◌, ◌/◌, ◌%◌, ◌≤◌, ◌<◌}
+use Prim.Native.Nat.{ℕ, zero, suc, ◌+◌, ◌*◌, ◌≤◌, ◌<◌}
 use native.Mathlib.Omega.{arith}
-use lib.Dec.{eqb, ltb}
 use lib.IntN.{pos}
-use lib.ListN.{length, get_or, set}
-use lib.Seq.{set-get_or, get_or-set_other}
-use borrow.Author.Tests.{eqb-true, ltb-true}
-use Rattle.picture.specs.Fill.{put, flat, flat_same, Filled, fill_run, length_put, get_or_put, get_or_off, get_or_flat, length_flat, stored3, within}
+use lib.ListN.{length, get_or}
+use Rattle.picture.specs.Fill.{put, length_put, get_or_put, get_or_off, get_or_flat, within}
 use Rattle.picture.specs.Picture.{words}
-use Rattle.tag.specs.declared.Tags.{Tags}
 use Rattle.grid.proofs.Moves.{stay}
 use Rattle.grid.proofs.Reading.{near_at}
-use Rattle.block.specs.Block.{corner, mid, tag_word, block_from}
+use Rattle.block.specs.Block.{tag_word}
 use Rattle.block.specs.Copies.{thrice, thrice_below}
 use Rattle.copies.proofs.Runs.{thrice_length}
 use Rattle.block.specs.Drawn.{Plain}

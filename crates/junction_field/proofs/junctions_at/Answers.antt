@@ -1,11 +1,9 @@
 -- `junction_field::junctions_at` meets its contract: the eight metrics and nine weights are those near the pixel. Assumes nothing.
-use borrow.Author.Rules.{rules}
-use native.Mathlib.Omega.{arith}
 use mathlib.Core.Path.{◌∙◌}
 use lib.IntN.{pos, negsuc}
 use Rattle.junction.specs.Junction.{junctions}
 use Rattle.grid.specs.Grid.{metric_field, weights_field}
-use Rattle.grid.proofs.Reading.{held_at, near_at}
+use Rattle.grid.proofs.Reading.{near_at}
 use Rattle.junction_field.proofs.Same.{junctions_same}
 use Rattle.junction_field.proofs.junctions_at.Goals as goal
 

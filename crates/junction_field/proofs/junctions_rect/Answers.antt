@@ -1,16 +1,11 @@
 -- `junction_field::junctions_rect` meets its contract: the invariant says that the first y rows stand at the front. Assumes nothing.
-use borrow.Author.Rules.{rules}
 use native.Mathlib.Omega.{arith}
-use mathlib.Core.Path.{◌≡◌, refl}
-use mathlib.Core.List.{List}
-use Prim.Native.Nat.{ℕ, ◌+◌, ◌*◌, ◌-◌, ◌≤◌}
+use mathlib.Core.Path.{refl}
+use Prim.Native.Nat.{◌+◌, ◌*◌, ◌≤◌}
 use native.Mathlib.Nat.{zero-mul}
-use lib.Ieee.{Float}
-use Rattle.picture.specs.Fill.{Filled, fill_none, fill_more, fill_done, chunk, add_one_mul}
+use Rattle.picture.specs.Fill.{fill_none, fill_more, fill_done, chunk, add_one_mul}
 use Rattle.junction.specs.Junction.{junctions}
-use Rattle.grid.specs.declared.Grid.{Grid}
-use Rattle.grid.specs.Grid.{of_junctions, metric_field, weights_field, row_of, rect_of}
-use Rattle.grid.specs.Room.{feeds_at}
+use Rattle.grid.specs.Grid.{of_junctions, metric_field, weights_field, rect_of}
 use Rattle.grid.specs.Kept.{row_length}
 use Rattle.junction_field.proofs.junctions_rect.Invariants.{lines}
 use Rattle.junction_field.proofs.junctions_rect.Goals as goal

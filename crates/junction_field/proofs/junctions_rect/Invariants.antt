@@ -1,17 +1,12 @@
 -- What the loop keeps, and its measure.
-use borrow.Author.Rules.{rules}
-use native.Mathlib.Omega.{arith}
-use mathlib.Core.Path.{◌≡◌, refl}
+use mathlib.Core.Path.{◌≡◌}
 use mathlib.Core.List.{List}
 use Prim.Native.Nat.{ℕ, ◌+◌, ◌*◌, ◌-◌, ◌≤◌}
-use native.Mathlib.Nat.{zero-mul}
 use lib.Ieee.{Float}
-use Rattle.picture.specs.Fill.{Filled, fill_none, fill_more, fill_done, chunk, add_one_mul}
+use Rattle.picture.specs.Fill.{Filled}
 use Rattle.junction.specs.Junction.{junctions}
 use Rattle.grid.specs.declared.Grid.{Grid}
-use Rattle.grid.specs.Grid.{of_junctions, metric_field, weights_field, row_of, rect_of}
-use Rattle.grid.specs.Room.{feeds_at}
-use Rattle.grid.specs.Kept.{row_length}
+use Rattle.grid.specs.Grid.{of_junctions, metric_field, weights_field, row_of}
 use Rattle.junction_field.proofs.junctions_rect.Given as goal
 
 -- each row of the rectangle

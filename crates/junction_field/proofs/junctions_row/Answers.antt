@@ -1,14 +1,8 @@
 -- `junction_field::junctions_row` meets its contract: the invariant says that the row's first x records stand from `at` on. Assumes nothing.
 use native.Mathlib.Omega.{arith}
-use mathlib.Core.Path.{◌≡◌, refl, ap}
-use mathlib.Core.List.{List}
-use Prim.Native.Nat.{ℕ, ◌+◌, ◌*◌, ◌-◌, ◌≤◌}
-use lib.Ieee.{Float}
-use Rattle.picture.specs.Fill.{Filled, fill_none, fill_more, fill_done}
-use Rattle.junction.specs.Junction.{junctions}
-use Rattle.grid.specs.declared.Grid.{Grid}
-use Rattle.grid.specs.Grid.{of_junctions, metric_field, weights_field, row_of}
-use Rattle.grid.specs.Room.{reads_at}
+use mathlib.Core.Path.{refl, ap}
+use Rattle.picture.specs.Fill.{fill_none, fill_more, fill_done}
+use Rattle.grid.specs.Grid.{of_junctions, row_of}
 use Rattle.junction_field.proofs.junctions_row.Invariants.{chunks}
 use Rattle.junction_field.proofs.junctions_row.Goals as goal
 

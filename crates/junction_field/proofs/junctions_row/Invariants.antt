@@ -1,14 +1,12 @@
 -- What the loop keeps, and its measure.
-use native.Mathlib.Omega.{arith}
-use mathlib.Core.Path.{◌≡◌, refl, ap}
+use mathlib.Core.Path.{◌≡◌}
 use mathlib.Core.List.{List}
 use Prim.Native.Nat.{ℕ, ◌+◌, ◌*◌, ◌-◌, ◌≤◌}
 use lib.Ieee.{Float}
-use Rattle.picture.specs.Fill.{Filled, fill_none, fill_more, fill_done}
+use Rattle.picture.specs.Fill.{Filled}
 use Rattle.junction.specs.Junction.{junctions}
 use Rattle.grid.specs.declared.Grid.{Grid}
-use Rattle.grid.specs.Grid.{of_junctions, metric_field, weights_field, row_of}
-use Rattle.grid.specs.Room.{reads_at}
+use Rattle.grid.specs.Grid.{of_junctions, metric_field, weights_field}
 use Rattle.junction_field.proofs.junctions_row.Given as goal
 
 -- the record of each pixel of the row

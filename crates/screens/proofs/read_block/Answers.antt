@@ -1,15 +1,13 @@
 -- `screens::read_block` meets its contract. The first k words are the block's. Assumes nothing.
-use mathlib.Core.Path.{◌≡◌, ap, ◌∙◌}
-use mathlib.Core.List.{List, ◌++◌}
-use Prim.Native.Nat.{ℕ, ◌+◌, ◌-◌, ◌*◌, ◌/◌, ◌%◌, ◌≤◌, ◌<◌}
+use mathlib.Core.Path.{ap, ◌∙◌}
+use mathlib.Core.List.{List}
+use Prim.Native.Nat.{ℕ, ◌<◌}
 use native.Mathlib.Omega.{arith}
-use lib.ListN.{length, get_or, set, drop, length-set}
-use borrow.Author.Rules.{rules}
-use Rattle.machine.specs.Lists.{table}
+use lib.ListN.{get_or, set, length-set}
 use Rattle.machine.specs.Screen.{block_words}
 use Rattle.machine.proofs.Places.{spot}
 use Rattle.screens.specs.Screens.{screen_of}
-use Rattle.screens.proofs.Blocks.{some, along, its_row, its_column, small, within, fill_more, fill_done}
+use Rattle.screens.proofs.Blocks.{within, fill_more}
 use Rattle.screens.proofs.read_block.Goals as goal
 
 -- where word k lies, in a turn of the loop

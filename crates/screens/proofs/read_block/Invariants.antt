@@ -1,15 +1,10 @@
 -- What the loop keeps, and its measure.
-use mathlib.Core.Path.{◌≡◌, ap, ◌∙◌}
-use mathlib.Core.List.{List, ◌++◌}
-use Prim.Native.Nat.{ℕ, ◌+◌, ◌-◌, ◌*◌, ◌/◌, ◌%◌, ◌≤◌, ◌<◌}
-use native.Mathlib.Omega.{arith}
-use lib.ListN.{length, get_or, set, drop, length-set}
-use borrow.Author.Rules.{rules}
+use mathlib.Core.Path.{◌≡◌}
+use mathlib.Core.List.{◌++◌}
+use Prim.Native.Nat.{◌-◌, ◌≤◌}
+use lib.ListN.{length, get_or, drop}
 use Rattle.machine.specs.Lists.{table}
-use Rattle.machine.specs.Screen.{block_words}
 use Rattle.machine.proofs.Places.{spot}
-use Rattle.screens.specs.Screens.{screen_of}
-use Rattle.screens.proofs.Blocks.{some, along, its_row, its_column, small, within, fill_more, fill_done}
 use Rattle.screens.proofs.read_block.Given as goal
 
 abbrev pub invariant-loop-k : goal.invariant-loop-k

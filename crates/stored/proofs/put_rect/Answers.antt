@@ -1,15 +1,14 @@
 -- `stored::put_rect` meets its contract: the invariant says that the first j rows of blocks stand. Assumes nothing.
 use native.Mathlib.Omega.{arith}
 use native.Mathlib.Nat.{zero-mul}
-use mathlib.Core.Path.{◌≡◌, ap}
+use mathlib.Core.Path.{ap}
 use mathlib.Core.List.{List}
-use Prim.Native.Nat.{ℕ, ◌+◌, ◌*◌, ◌-◌, ◌≤◌}
+use Prim.Native.Nat.{ℕ, ◌+◌, ◌*◌}
 use Rattle.picture.specs.Picture.{words}
 use Rattle.picture.specs.Fill.{chunk, add_one_mul}
 use Rattle.grid.specs.Grid.{tags_at}
 use Rattle.block.specs.Block.{block_from}
-use Rattle.block.specs.StoreLaws.{Rected, rected_none, rected_more, rected_done}
-use borrow.Author.Rules.{rules}
+use Rattle.block.specs.StoreLaws.{rected_none, rected_more}
 use Rattle.stored.proofs.put_rect.Invariants.{blocks}
 use Rattle.stored.proofs.put_rect.Goals as goal
 

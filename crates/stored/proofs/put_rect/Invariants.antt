@@ -1,15 +1,11 @@
 -- What the loop keeps, and its measure.
-use native.Mathlib.Omega.{arith}
-use native.Mathlib.Nat.{zero-mul}
-use mathlib.Core.Path.{◌≡◌, ap}
+use mathlib.Core.Path.{◌≡◌}
 use mathlib.Core.List.{List}
 use Prim.Native.Nat.{ℕ, ◌+◌, ◌*◌, ◌-◌, ◌≤◌}
 use Rattle.picture.specs.Picture.{words}
-use Rattle.picture.specs.Fill.{chunk, add_one_mul}
 use Rattle.grid.specs.Grid.{tags_at}
 use Rattle.block.specs.Block.{block_from}
-use Rattle.block.specs.StoreLaws.{Rected, rected_none, rected_more, rected_done}
-use borrow.Author.Rules.{rules}
+use Rattle.block.specs.StoreLaws.{Rected}
 use Rattle.stored.proofs.put_rect.Given as goal
 
 -- block (i, j) of the rectangle

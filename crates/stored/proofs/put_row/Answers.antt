@@ -1,12 +1,10 @@
 -- `stored::put_row` meets its contract: the blocks cover the copies. Assumes nothing.
 use native.Mathlib.Omega.{arith}
-use native.Mathlib.Nat.{mul_comm}
 use mathlib.Core.Path.{◌≡◌, ◌∙◌, ap}
 use mathlib.Core.List.{List}
-use Prim.Native.Nat.{ℕ, ◌+◌, ◌*◌, ◌≤◌}
+use Prim.Native.Nat.{ℕ, ◌+◌, ◌*◌}
 use lib.ListN.{length, get_or}
 use Rattle.picture.specs.Picture.{words}
-use Rattle.picture.specs.Fill.{chunk}
 use Rattle.grid.specs.Grid.{tags_at}
 use Rattle.block.specs.Block.{block_from}
 use Rattle.block.specs.Copies.{thrice, thrice_below}
@@ -14,7 +12,6 @@ use Rattle.copies.proofs.Runs.{thrice_length, copies_from}
 use Rattle.block.specs.Store.{put_row}
 use Rattle.block.specs.Strips.{covered}
 use Rattle.stored.proofs.Copies.{copied, below_long}
-use borrow.Author.Rules.{rules}
 use Rattle.stored.proofs.put_row.Goals as goal
 
 pub put_tagged-requires : goal.put_tagged-requires

@@ -2,16 +2,14 @@
 use native.Mathlib.Omega.{arith}
 use mathlib.Core.Path.{◌≡◌, ◌∙◌, ap}
 use mathlib.Core.List.{List}
-use mathlib.Core.Logic.{inl, inr}
-use Prim.Native.Nat.{ℕ, ◌+◌, ◌*◌, ◌-◌, ◌≤◌}
+use Prim.Native.Nat.{ℕ, ◌+◌}
 use Rattle.picture.specs.Picture.{words}
 use Rattle.grid.specs.Grid.{tags_at}
 use Rattle.block.specs.Block.{tag_word, block_from}
 use Rattle.block.specs.Drawn.{put_block, Plain}
 use Rattle.tag_words.proofs.Rows.{plain_drawn}
-use Rattle.block.specs.StoreLaws.{Rowed, rowed_none, rowed_more, rowed_done}
+use Rattle.block.specs.StoreLaws.{rowed_none, rowed_more}
 use Rattle.stored.proofs.Copies.{stands}
-use borrow.Author.Rules.{rules}
 use Rattle.stored.proofs.put_tagged.Invariants.{blocks}
 use Rattle.stored.proofs.put_tagged.Goals as goal
 

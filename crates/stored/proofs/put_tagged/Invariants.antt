@@ -1,17 +1,11 @@
 -- What the loop keeps, and its measure.
-use native.Mathlib.Omega.{arith}
-use mathlib.Core.Path.{◌≡◌, ◌∙◌, ap}
+use mathlib.Core.Path.{◌≡◌}
 use mathlib.Core.List.{List}
-use mathlib.Core.Logic.{inl, inr}
 use Prim.Native.Nat.{ℕ, ◌+◌, ◌*◌, ◌-◌, ◌≤◌}
 use Rattle.picture.specs.Picture.{words}
 use Rattle.grid.specs.Grid.{tags_at}
-use Rattle.block.specs.Block.{tag_word, block_from}
-use Rattle.block.specs.Drawn.{put_block, Plain}
-use Rattle.tag_words.proofs.Rows.{plain_drawn}
-use Rattle.block.specs.StoreLaws.{Rowed, rowed_none, rowed_more, rowed_done}
-use Rattle.stored.proofs.Copies.{stands}
-use borrow.Author.Rules.{rules}
+use Rattle.block.specs.Block.{block_from}
+use Rattle.block.specs.StoreLaws.{Rowed}
 use Rattle.stored.proofs.put_tagged.Given as goal
 
 -- block i of the row

@@ -7,7 +7,6 @@ use Rattle.picture.specs.Fill.{put, length_put}
 use Rattle.block.specs.Block.{tag_word, block_from}
 use Rattle.block.specs.Drawn.{third, put_block}
 use Rattle.tag_words.proofs.Rows.{middle_stands, bottom_stands}
-use borrow.Author.Rules.{rules}
 use Rattle.tag_words.proofs.put_block.Goals as goal
 
 pub put_middle-requires : goal.put_middle-requires

@@ -3,7 +3,6 @@ use mathlib.Core.Path.{◌∙◌}
 use Rattle.picture.specs.Picture.{words}
 use Rattle.block.specs.Block.{block_from}
 use Rattle.tag_words.proofs.Rows.{corners_row}
-use borrow.Author.Rules.{rules}
 use Rattle.tag_words.proofs.put_bottom.Goals as goal
 
 pub returns : goal.returns

@@ -2,7 +2,6 @@
 use Rattle.picture.specs.Picture.{words}
 use Rattle.block.specs.Block.{tag_word}
 use Rattle.tag_words.proofs.Offsets.{word_of}
-use borrow.Author.Rules.{rules}
 use Rattle.tag_words.proofs.tag_word.Goals as goal
 
 pub returns : goal.returns

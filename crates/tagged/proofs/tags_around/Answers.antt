@@ -1,11 +1,9 @@
 -- `tagged::tags_around` meets its contract: the thirteen records are those near the pixel. Assumes nothing.
-use borrow.Author.Rules.{rules}
-use native.Mathlib.Omega.{arith}
 use mathlib.Core.Path.{◌∙◌}
 use lib.IntN.{pos, negsuc}
 use Rattle.tag.specs.Tag.{tags}
 use Rattle.grid.specs.Grid.{junctions_field}
-use Rattle.grid.proofs.Reading.{held_at, near_at}
+use Rattle.grid.proofs.Reading.{near_at}
 use Rattle.tagged.proofs.Same.{tags_same}
 use Rattle.tagged.proofs.tags_around.Goals as goal
 

@@ -1,6 +1,4 @@
 -- `tagged::tags_at` meets its contract: where the pixel is bare its tags are 0, and where those beside it decide they are what
-use borrow.Author.Rules.{rules}
-use native.Mathlib.Omega.{arith}
 use mathlib.Core.Path.{◌≡◌, refl, sym, ◌∙◌, ap}
 use mathlib.Core.Bool.{true}
 use Prim.Native.Nat.{ℕ, ◌<◌}
@@ -13,8 +11,8 @@ use Rattle.tag.specs.Tag.{tags}
 use Rattle.tag.specs.Words.{bare_of, near_of}
 use Rattle.tag.proofs.Exits.{bare_none, near_all}
 use Rattle.grid.specs.Grid.{junctions_field}
-use Rattle.grid.proofs.Moves.{stay, stay_close}
-use Rattle.grid.proofs.Reading.{held_at, near_at}
+use Rattle.grid.proofs.Moves.{stay}
+use Rattle.grid.proofs.Reading.{near_at}
 use Rattle.tagged.proofs.Same.{near_same}
 use Rattle.tagged.proofs.tags_at.Goals as goal
 

@@ -1,16 +1,13 @@
 -- `tagged::tags_rect` meets its contract: the invariant says that the first y rows stand from the cut on. Assumes nothing.
-use borrow.Author.Rules.{rules}
 use native.Mathlib.Omega.{arith}
-use mathlib.Core.Path.{◌≡◌, refl, ap}
+use mathlib.Core.Path.{refl, ap}
 use mathlib.Core.List.{List}
-use Prim.Native.Nat.{ℕ, ◌+◌, ◌*◌, ◌-◌, ◌≤◌}
+use Prim.Native.Nat.{ℕ, ◌+◌, ◌*◌, ◌≤◌}
 use native.Mathlib.Nat.{zero-mul}
 use lib.ListN.{take}
-use Rattle.picture.specs.Fill.{Filled, fill_none, fill_more, fill_done, fill_take, chunk, add_one_mul}
+use Rattle.picture.specs.Fill.{fill_none, fill_more, fill_done, fill_take, chunk, add_one_mul}
 use Rattle.tag.specs.Tag.{tags}
-use Rattle.grid.specs.declared.Grid.{Grid}
-use Rattle.grid.specs.Grid.{of_tags, junctions_field, row_of, rect_of}
-use Rattle.grid.specs.Room.{feeds_at}
+use Rattle.grid.specs.Grid.{of_tags, junctions_field, rect_of}
 use Rattle.grid.specs.Kept.{row_length}
 use Rattle.tagged.proofs.tags_rect.Invariants.{lines}
 use Rattle.tagged.proofs.tags_rect.Goals as goal

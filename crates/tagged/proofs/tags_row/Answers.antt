@@ -1,15 +1,12 @@
 -- `tagged::tags_row` meets its contract: the invariant says that the row's first x records stand from `at` on.
 use native.Mathlib.Omega.{arith}
-use mathlib.Core.Path.{◌≡◌, refl, sym, ◌∙◌, ap}
+use mathlib.Core.Path.{refl, ◌∙◌, ap}
 use mathlib.Core.List.{List}
-use Prim.Native.Nat.{ℕ, ◌+◌, ◌*◌, ◌-◌, ◌≤◌}
+use Prim.Native.Nat.{ℕ, ◌+◌}
 use lib.ListN.{take}
-use lib.Seq.{length-take-le}
-use Rattle.picture.specs.Fill.{Filled, fill_none, fill_more, fill_done, fill_take}
+use Rattle.picture.specs.Fill.{fill_none, fill_more, fill_done, fill_take}
 use Rattle.tag.specs.Tag.{tags}
-use Rattle.grid.specs.declared.Grid.{Grid}
 use Rattle.grid.specs.Grid.{of_tags, junctions_field, row_of}
-use Rattle.grid.specs.Room.{reads_at, held_take}
 use Rattle.tagged.proofs.tags_row.Invariants.{chunks}
 use Rattle.tagged.proofs.tags_row.Goals as goal
 

@@ -1,15 +1,12 @@
 -- What the loop keeps, and its measure.
-use native.Mathlib.Omega.{arith}
-use mathlib.Core.Path.{◌≡◌, refl, sym, ◌∙◌, ap}
+use mathlib.Core.Path.{◌≡◌}
 use mathlib.Core.List.{List}
 use Prim.Native.Nat.{ℕ, ◌+◌, ◌*◌, ◌-◌, ◌≤◌}
 use lib.ListN.{take}
-use lib.Seq.{length-take-le}
-use Rattle.picture.specs.Fill.{Filled, fill_none, fill_more, fill_done, fill_take}
+use Rattle.picture.specs.Fill.{Filled}
 use Rattle.tag.specs.Tag.{tags}
 use Rattle.grid.specs.declared.Grid.{Grid}
-use Rattle.grid.specs.Grid.{of_tags, junctions_field, row_of}
-use Rattle.grid.specs.Room.{reads_at, held_take}
+use Rattle.grid.specs.Grid.{of_tags, junctions_field}
 use Rattle.tagged.proofs.tags_row.Given as goal
 
 -- the record of each pixel of the row, from what l holds

@@ -1,6 +1,5 @@
 -- `three::mark_paint` meets its contract. Assumes nothing.
 use mathlib.Core.Path.{◌∙◌, ap}
-use borrow.Author.Rules.{rules}
 use Rattle.machine.specs.Lists.{stamp}
 use Rattle.marks.specs.Marks.{boxed}
 use Rattle.three.proofs.Cross.{cross_marked}
