@@ -1,30 +1,26 @@
 -- Two pictures that agree at every position have the same output, singles and bytes; so the words of a buffer past the picture are not read.
 -- Assumes nothing.
-use mathlib.Core.Path.{◌≡◌, refl, sym, ap, ap₂, ◌∙◌}
+use mathlib.Core.Path.{◌≡◌, refl, sym, ap, ap₂}
 use mathlib.Core.Bool.{Bool, true, false}
 use mathlib.Core.List.{List, ◌++◌}
-use Prim.Native.Nat.{ℕ, ◌+◌, ◌*◌, ◌<◌, ◌≤◌}
+use Prim.Native.Nat.{ℕ, ◌+◌, ◌*◌, ◌<◌}
 use native.Mathlib.Omega.{arith}
 use lib.Dec.{ltb}
 use lib.Ieee.{Float}
-use lib.ListN.{length, get_or, take, length-take}
+use lib.ListN.{length, take, length-take}
 use lib.Seq.{get_or-take}
 use borrow.Author.Tests.{lt-ltb, le-ltb, ltb-true, ltb-false}
 use Rattle.picture.specs.Picture.{words}
-use Rattle.picture.specs.Fill.{flat, flat_same, within}
+use Rattle.picture.specs.Fill.{flat_same, within}
 use Rattle.picture.specs.Local.{Match, agreed, here}
 use Rattle.picture.specs.Pipeline as Pipeline
 use Rattle.clarity.specs.declared.Clarity.{Clarity}
-use Rattle.metric.specs.declared.Metric.{Metric}
-use Rattle.metric.specs.declared.Weights.{Weights}
 use Rattle.metric.specs.Metric.{metrics}
 use Rattle.weight.specs.Weight.{weights}
-use Rattle.junction.specs.declared.Junctions.{Junctions}
 use Rattle.junction.specs.Junction.{junctions}
-use Rattle.tag.specs.declared.Tags.{Tags}
 use Rattle.tag.specs.Tag.{tags}
 use Rattle.grid.specs.Grid.{of_metric, of_weights, of_junctions, of_tags}
-use Rattle.block.specs.Block.{picture_junctions, picture_tags, block_of}
+use Rattle.block.specs.Block.{picture_junctions, picture_tags}
 use Rattle.block.specs.Drawn.{third}
 use Rattle.block.specs.Locality.{stages, cross}
 use Rattle.enlarged.specs.Whole.{all_of, rows_of, scale_of, singles_of, bytes_of}

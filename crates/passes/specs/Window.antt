@@ -1,6 +1,6 @@
 -- What the passes ask of the rectangles that they run on, one after the other, and what they leave; the rectangles round a tile of pixels.
 -- What the code computes by; nothing of the rules rests on it. Definitions only.
-use Rattle.std.specs.Prelude.{◌≡◌, List, ℕ, ◌+◌, ◌-◌, ◌*◌, ◌≤◌, ◌<◌, min, Float, length, drop}
+use Rattle.std.specs.Prelude.{◌≡◌, List, ℕ, ◌+◌, ◌*◌, ◌≤◌, ◌<◌, Float, length, drop}
 use Rattle.picture.specs.Fill.{put}
 use Rattle.clarity.specs.declared.Clarity.{Clarity}
 use Rattle.metric.specs.Metric.{metrics}

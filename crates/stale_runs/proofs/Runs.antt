@@ -1,6 +1,6 @@
 -- Blocks of the last pass stored for a run of a tile's blocks, m by m for each: room for them, and that they are the run drawn. What is said
 -- over a Bool holds for both screens, true being the nine-times. Assumes nothing.
-use mathlib.Core.Path.{◌≡◌, refl, sym, ap, ap₂, ◌∙◌}
+use mathlib.Core.Path.{◌≡◌, ap, ap₂, ◌∙◌}
 use mathlib.Core.Bool.{Bool, true, false, cond}
 use mathlib.Core.List.{List}
 use Prim.Native.Nat.{ℕ, ◌+◌, ◌*◌, ◌≤◌, ◌<◌}

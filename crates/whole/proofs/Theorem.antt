@@ -5,7 +5,7 @@ use mathlib.Core.List.{List}
 use Prim.Native.Nat.{ℕ, ◌*◌}
 use lib.Dec.{ltb}
 use lib.Ieee.{Float}
-use lib.ListN.{length, take}
+use lib.ListN.{take}
 use Rattle.picture.specs.Picture.{words}
 use Rattle.picture.specs.Refusal as Refusal
 use Rattle.clarity.specs.declared.Clarity.{Clarity}

@@ -1,9 +1,7 @@
 -- `calls::open` meets its contract. Assumes nothing.
 use mathlib.Core.Path.{◌≡◌, sym, ap, subst, ◌∙◌}
 use mathlib.Core.List.{◌++◌}
-use Prim.Native.Nat.{ℕ, ◌*◌, ◌≤◌}
-use native.Mathlib.Omega.{arith}
-use borrow.Author.Rules.{rules}
+use Prim.Native.Nat.{ℕ, ◌*◌}
 use lib.ListN.{length, drop, replicate}
 use Rattle.clarity.specs.declared.Clarity.{Clarity}
 use Rattle.header.specs.declared.Header.{Header}
@@ -12,10 +10,8 @@ use Rattle.machine.specs.Calls.{refusal_all, Opens}
 use Rattle.machine.specs.Screen.{block_words}
 use Rattle.machine.specs.Lent.{Lent}
 use Rattle.screens.specs.Screens.{screen_of}
-use Rattle.screens.proofs.Screens.{sides, many, within}
 use Rattle.marks.proofs.Box.{run_start}
 use Rattle.machine.proofs.Ends.{lent, open_refused, open_done}
-use Rattle.machine.proofs.Places.{area}
 use Rattle.calls.proofs.open.Goals as goal
 
 -- the refusal, for the header that the opening is to answer, by the screen's own numbers

@@ -1,16 +1,12 @@
 -- `calls::show` meets its contract. Assumes nothing.
-use mathlib.Core.Path.{◌≡◌, sym, ap, ◌∙◌}
+use mathlib.Core.Path.{◌≡◌, ◌∙◌}
 use Prim.Native.Nat.{ℕ}
 use mathlib.Core.List.{List}
 use Rattle.header.specs.declared.Header.{Header}
-use native.Mathlib.Omega.{arith}
-use borrow.Author.Rules.{rules}
-use lib.ListN.{length, length-replicate}
 use Rattle.machine.specs.Screen.{block_words}
 use Rattle.machine.specs.Calls.{refusal_show}
-use Rattle.machine.proofs.Ends.{lent_show, show_refused, show_done}
+use Rattle.machine.proofs.Ends.{show_refused, show_done}
 use Rattle.screens.specs.Screens.{screen_of}
-use Rattle.screens.proofs.Screens.{sides, many, within}
 use Rattle.calls.proofs.show.Goals as goal
 
 -- the refusal, by the screen's own numbers

@@ -2,7 +2,6 @@
 use Prim.Native.Nat.{◌*◌}
 use Rattle.enlarged.specs.Passes.{enlarged}
 use Rattle.enlarged.proofs.Rest.{whole_rest}
-use borrow.Author.Rules.{rules}
 use Rattle.enlarged.proofs.enlarge.Goals as goal
 
 pub returns : goal.returns

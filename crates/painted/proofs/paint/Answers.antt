@@ -1,16 +1,10 @@
 -- `painted::paint` meets its contract. Assumes nothing.
 use mathlib.Core.Path.{◌≡◌, sym, ap, ◌∙◌}
 use Prim.Native.Nat.{ℕ}
-use native.Mathlib.Omega.{arith}
 use lib.ListN.{length}
-use borrow.Author.Rules.{rules}
 use Rattle.machine.specs.Calls.{refusal_paint}
-use Rattle.machine.specs.Lent.{LentPaint}
-use Rattle.machine.proofs.Places.{area}
-use Rattle.machine.proofs.Ends.{lent_paint}
-use Rattle.machine.proofs.PaintEnds.{marks_length, paint_refused, paint_done}
+use Rattle.machine.proofs.PaintEnds.{paint_refused, paint_done}
 use Rattle.screens.specs.Screens.{screen_of}
-use Rattle.screens.proofs.Screens.{sides, within}
 use Rattle.painted.proofs.paint.Goals as goal
 
 pub returns-then-refusal-ne0 : goal.returns-then-refusal-ne0

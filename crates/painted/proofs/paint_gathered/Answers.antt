@@ -3,14 +3,11 @@ use mathlib.Core.Path.{◌≡◌, ap, ◌∙◌}
 use Prim.Native.Nat.{ℕ}
 use native.Mathlib.Omega.{arith}
 use lib.ListN.{length, take}
-use borrow.Author.Rules.{rules}
 use Rattle.machine.specs.Lent.{LentList}
 use Rattle.machine.specs.Calls.{refusal_list, items_end}
 use Rattle.machine.specs.Items.{refusal_items}
-use Rattle.machine.proofs.Places.{area}
-use Rattle.machine.proofs.ListEnds.{items_marks_length, list_refused, lent_list, items_taken, list_done}
+use Rattle.machine.proofs.ListEnds.{list_refused, lent_list, items_taken, list_done}
 use Rattle.screens.specs.Screens.{screen_of}
-use Rattle.screens.proofs.Screens.{sides, within}
 use Rattle.painted.proofs.paint_gathered.Goals as goal
 
 pub returns-then-refusal-ne0 : goal.returns-then-refusal-ne0

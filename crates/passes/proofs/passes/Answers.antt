@@ -1,7 +1,6 @@
 -- `passes::passes` meets its contract: `Passes` follows the lists from pass to pass. Assumes nothing.
 use Rattle.picture.specs.Picture.{words}
 use Rattle.passes.specs.Passes.{passed}
-use borrow.Author.Rules.{rules}
 use Rattle.passes.proofs.passes.Goals as goal
 
 pub returns : goal.returns

@@ -6,7 +6,6 @@ use Rattle.picture.specs.Picture.{words}
 use Rattle.grid.specs.declared.Grid.{Grid}
 use Rattle.passes.specs.Window.{Rooms, tile_metrics, tile_junctions}
 use Rattle.passes.specs.Passes.{tile_rooms, tile_tagged}
-use borrow.Author.Rules.{rules}
 use Rattle.passes.proofs.tags_tile.Goals as goal
 
 -- the rectangles are the ones round the tile

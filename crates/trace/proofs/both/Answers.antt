@@ -1,5 +1,4 @@
 -- `trace::both` meets its contract. Assumes nothing.
-use borrow.Author.Rules.{rules}
 use Rattle.tag.specs.Words.{both_of}
 use Rattle.lanes.specs.Lanes.{lanes}
 use Rattle.trace.proofs.both.Goals as goal

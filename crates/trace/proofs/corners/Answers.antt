@@ -1,5 +1,4 @@
 -- `trace::corners` meets its contract. Assumes nothing.
-use borrow.Author.Rules.{rules}
 use Rattle.tag.specs.Words.{corners_of}
 use Rattle.lanes.specs.Lanes.{lanes}
 use Rattle.trace.proofs.corners.Goals as goal

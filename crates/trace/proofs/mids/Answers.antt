@@ -1,5 +1,4 @@
 -- `trace::mids` meets its contract. Assumes nothing.
-use borrow.Author.Rules.{rules}
 use Rattle.tag.specs.Words.{mids_of}
 use Rattle.lanes.specs.Lanes.{lanes}
 use Rattle.trace.proofs.mids.Goals as goal

@@ -1,5 +1,4 @@
 -- `trace::split` meets its contract. Assumes nothing.
-use borrow.Author.Rules.{rules}
 use mathlib.Core.Path.{refl}
 use Rattle.tag.specs.Words.{split_of}
 use Rattle.trace.proofs.split.Goals as goal

@@ -1,5 +1,4 @@
 -- `trace::tags_word` meets its contract. Assumes nothing.
-use borrow.Author.Rules.{rules}
 use Rattle.tag.specs.Words.{tags_word}
 use Rattle.trace.proofs.tags_word.Goals as goal
 

@@ -1,6 +1,5 @@
 -- `trace::trace_edges` meets its contract. Assumes nothing.
 use mathlib.Core.Path.{◌∙◌}
-use borrow.Author.Rules.{rules}
 use Rattle.tag.proofs.Exits.{whole}
 use Rattle.trace.proofs.trace_edges.Goals as goal
 

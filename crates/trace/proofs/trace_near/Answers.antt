@@ -1,7 +1,6 @@
 -- `trace::trace_near` meets its contract. Assumes nothing.
 use mathlib.Core.Path.{◌∙◌, sym, ap}
 use mathlib.Core.Bool.{true, false}
-use borrow.Author.Rules.{rules}
 use borrow.Author.Tests.{eq-eqb, ne_eqb}
 use Rattle.tag.specs.Words.{split_of}
 use Rattle.tag.proofs.Exits.{near_made, near_none}

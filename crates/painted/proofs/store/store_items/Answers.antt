@@ -1,14 +1,6 @@
 -- `painted::store::store_items` meets its contract. Assumes nothing.
-use mathlib.Core.Path.{◌≡◌, refl, sym, ap, ◌∙◌}
-use Prim.Native.Nat.{◌-◌, ◌≤◌}
-use mathlib.Core.List.{List}
 use native.Mathlib.Omega.{arith}
-use lib.ListN.{length, take, drop}
-use borrow.Author.Rules.{rules}
-use Rattle.paints.specs.declared.Paint.{Paint}
-use Rattle.paints.proofs.Laws.{no_item}
-use Rattle.machine.specs.Calls.{items_end}
-use Rattle.machine.proofs.ListEnds.{Rest, rest_word, rest_next}
+use Rattle.machine.proofs.ListEnds.{rest_word}
 use Rattle.screens.specs.Screens.{screen_of}
 use Rattle.painted.proofs.store.store_items.Goals as goal
 

@@ -1,14 +1,9 @@
 -- What the loop keeps, and its measure.
-use mathlib.Core.Path.{◌≡◌, refl, sym, ap, ◌∙◌}
+use mathlib.Core.Path.{◌≡◌}
 use Prim.Native.Nat.{◌-◌, ◌≤◌}
-use mathlib.Core.List.{List}
-use native.Mathlib.Omega.{arith}
 use lib.ListN.{length, take, drop}
-use borrow.Author.Rules.{rules}
-use Rattle.paints.specs.declared.Paint.{Paint}
-use Rattle.paints.proofs.Laws.{no_item}
 use Rattle.machine.specs.Calls.{items_end}
-use Rattle.machine.proofs.ListEnds.{Rest, rest_word, rest_next}
+use Rattle.machine.proofs.ListEnds.{Rest}
 use Rattle.screens.specs.Screens.{screen_of}
 use Rattle.painted.proofs.store.store_items.Given as goal
 

@@ -1,7 +1,6 @@
 -- `painted::store::store_word` meets its contract. Assumes nothing.
 use native.Mathlib.Omega.{arith}
 use lib.ListN.{length}
-use borrow.Author.Rules.{rules}
 use Rattle.machine.specs.Lent.{LentPaint}
 use Rattle.machine.proofs.Ends.{lent_paint}
 use Rattle.machine.proofs.PaintEnds.{stores_same, stores_other}

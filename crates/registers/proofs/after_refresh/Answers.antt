@@ -1,0 +1,8 @@
+-- `registers::after_refresh` meets its contract. Assumes nothing.
+use borrow.Author.Rules.{rules}
+use Rattle.registers.specs.Registers.{after_refresh}
+use Rattle.registers.proofs.after_refresh.Goals as goal
+
+pub returns : goal.returns
+unfolding after_refresh
+returns c = rw (c.with_answer.ensures, c.with_raised.ensures)

@@ -1,0 +1,13 @@
+-- `text::put_decimal` meets its contract. Assumes nothing.
+use native.Mathlib.Omega.{arith}
+use borrow.Author.Rules.{rules}
+use Rattle.text.specs.Text.{decimal}
+use Rattle.text.proofs.Texts.{length_decimal}
+use Rattle.text.proofs.put_decimal.Goals as goal
+
+pub put_digits-requires : goal.put_digits-requires
+put_digits-requires c = omega (arith, length_decimal c.args.n)
+
+pub returns : goal.returns
+unfolding decimal
+returns c = rw c.places_of.ensures at c.put_digits.ensures

@@ -1,0 +1,38 @@
+-- `text::put_word` meets its contract. Assumes nothing.
+use mathlib.Core.List.{[], ◌∷◌, ◌++◌}
+use mathlib.Core.Path.{◌≡◌, sym, ◌∙◌, ap}
+use native.Mathlib.Omega.{arith}
+use lib.ListN.{length}
+use borrow.Author.Rules.{rules}
+use Rattle.text.specs.Text.{hex}
+use Rattle.text.specs.Writes.{gap}
+use Rattle.text.proofs.Texts.{length_hex, gap_first, gap_later, writes_as, writes_more}
+use Rattle.text.proofs.put_word.Goals as goal
+
+pub put_digits-requires : goal.put_digits-requires
+put_digits-requires c =
+    let first : length (gap c.args.i ++ hex c.args.word) ≡ 8 = (let a = c.args in ap length (gap_first a.i a.word c.if-i-eq0.true) ∙ length_hex a.word) in
+    omega (arith, first)
+
+pub returns-then-i-eq0 : goal.returns-then-i-eq0
+unfolding hex
+returns-then-i-eq0 c =
+    let a = c.args in
+    writes_as a.at (hex a.word) _ a.text.now _ _ (sym (gap_first a.i a.word c.if-i-eq0.true)) c.put_digits.ensures
+
+pub put_digits-requires-2 : goal.put_digits-requires-2
+put_digits-requires-2 c =
+    let later : length (gap c.args.i ++ hex c.args.word) ≡ 9 = (let a = c.args in ap length (gap_later a.i a.word c.if-i-eq0.false) ∙ omega (arith, length_hex a.word)) in
+    omega
+    (arith, later, c.put_byte-next.ensures.next_is, c.put_byte-next.auto.text)
+
+pub returns : goal.returns
+unfolding hex
+returns c =
+    let later : length (gap c.args.i ++ hex c.args.word) ≡ 9 = (let a = c.args in ap length (gap_later a.i a.word c.if-i-eq0.false) ∙ omega (arith, length_hex a.word)) in
+    let a = c.args in
+    let d = c.put_digits-2 in
+    let p = c.put_byte-next in
+    writes_as a.at (0x20 ∷ hex a.word) _ a.text.now _ _ (sym (gap_later a.i a.word c.if-i-eq0.false))
+    (writes_more a.at (0x20 ∷ []) (hex a.word) a.text.now p.new.text d.new.text p.result d.result
+    (omega (arith, later, length_hex a.word, c.requires)) p.ensures d.ensures)
