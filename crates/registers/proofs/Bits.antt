@@ -1,11 +1,11 @@
 -- What the definitions of flags and line say bit by bit. Assumes nothing.
 use mathlib.Core.Path.{◌≡◌, refl, sym, ap, ap₂, ◌∙◌}
 use mathlib.Core.Bool.{Bool, true, false, cond}
-use Prim.Native.Nat.{ℕ, zero, suc, ◌+◌, ◌-◌, ◌*◌, ◌/◌, ◌%◌, ◌^◌, ◌≤◌, ◌<◌, min, max}
+use Prim.Native.Nat.{ℕ, zero, suc, ◌+◌, ◌-◌, ◌*◌, ◌/◌, ◌%◌, ◌^◌, ◌<◌, min, max}
 use native.Mathlib.Omega.{arith}
 use lib.Bits.{bit_and, bit_or, and_step, and_shr, and_mod, and_zero_l, and_le_l, or_step, or_shr, or_zero_r}
 use lib.Dec.{eqb}
-use borrow.Author.Tests.{eqb-true, eq-eqb}
+use borrow.Author.Tests.{eqb-true}
 use Rattle.registers.specs.Registers.{cleared, raised, line_of}
 use Rattle.registers.specs.Claims.{bit, RegisterLaws}
 

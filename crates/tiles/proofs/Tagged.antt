@@ -1,8 +1,8 @@
 -- The tags of a tile, as `tags_tile` leaves them in its bytes: what they make ready, and the blocks that are stored by them. Assumes nothing.
-use mathlib.Core.Path.{◌≡◌, sym, ap, ◌∙◌}
+use mathlib.Core.Path.{◌≡◌, ap, ◌∙◌}
 use mathlib.Core.List.{List}
 use Prim.Native.Nat.{ℕ, ◌+◌, ◌*◌, ◌≤◌, ◌<◌}
-use native.Mathlib.Nat.{mul-le-mul, mul_left_comm, mul_assoc}
+use native.Mathlib.Nat.{mul-le-mul, mul_left_comm}
 use native.Mathlib.Omega.{arith}
 use lib.ListN.{length, take, drop, length-drop}
 use lib.Seq.{take_all}
@@ -14,7 +14,6 @@ use Rattle.block.specs.Block.{picture_tags, block_from, block_of}
 use Rattle.passes.specs.Window.{Tile, TileTagged, tile_junctions, tile_bytes}
 use Rattle.block.specs.Store.{put_rect, RectRoom}
 use Rattle.block.specs.StoreLaws.{rect_same}
-use Rattle.stale_runs.specs.declared.Source.{Source}
 use Rattle.stale_runs.specs.Tiles.{Ready}
 
 module _ (q : Clarity) (w h x y k r : ℕ) (p b b' : List ℕ) (tagged : TileTagged q w h (words w p) x y k r b b') (tile : Tile w h x y k r)

@@ -1,5 +1,4 @@
 -- `registers::after_paint` meets its contract. Assumes nothing.
-use borrow.Author.Rules.{rules}
 use Rattle.registers.specs.Registers.{after_paint}
 use Rattle.registers.proofs.after_paint.Goals as goal
 

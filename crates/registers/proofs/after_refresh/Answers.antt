@@ -1,5 +1,4 @@
 -- `registers::after_refresh` meets its contract. Assumes nothing.
-use borrow.Author.Rules.{rules}
 use Rattle.registers.specs.Registers.{after_refresh}
 use Rattle.registers.proofs.after_refresh.Goals as goal
 

@@ -1,13 +1,9 @@
 -- `text::put_bytes` meets its contract. Assumes nothing.
-use mathlib.Core.Path.{◌≡◌, refl}
-use Prim.Native.Nat.{◌+◌, ◌-◌, ◌≤◌}
+use mathlib.Core.Path.{refl}
 use native.Mathlib.Nat.{add-zero}
 use native.Mathlib.Omega.{arith}
-use lib.ListN.{length, take, length-set}
-use lib.Seq.{take_all}
-use borrow.Author.Rules.{rules}
-use Rattle.text.specs.Writes.{Writes}
-use Rattle.text.proofs.Texts.{writes_none, writes_next, writes_as}
+use lib.ListN.{length-set}
+use Rattle.text.proofs.Texts.{writes_none, writes_next}
 use Rattle.text.proofs.put_bytes.Goals as goal
 
 pub loop-i-init : goal.loop-i-init

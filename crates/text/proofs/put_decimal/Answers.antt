@@ -1,6 +1,5 @@
 -- `text::put_decimal` meets its contract. Assumes nothing.
 use native.Mathlib.Omega.{arith}
-use borrow.Author.Rules.{rules}
 use Rattle.text.specs.Text.{decimal}
 use Rattle.text.proofs.Texts.{length_decimal}
 use Rattle.text.proofs.put_decimal.Goals as goal

@@ -2,7 +2,6 @@
 use Prim.Native.Nat.{◌+◌, ◌≤◌}
 use native.Mathlib.Omega.{arith}
 use lib.ListN.{length, length-append}
-use borrow.Author.Rules.{rules}
 use Rattle.text.specs.Text.{rows, sides_text, picture_text}
 use Rattle.text.proofs.Texts.{writes_more}
 use Rattle.text.proofs.put_picture.Goals as goal

@@ -1,6 +1,5 @@
 -- `text::put_refused` meets its contract. Assumes nothing.
 use native.Mathlib.Omega.{arith}
-use borrow.Author.Rules.{rules}
 use Rattle.text.proofs.Texts.{length_refused, writes_refused}
 use Rattle.text.proofs.put_refused.Goals as goal
 

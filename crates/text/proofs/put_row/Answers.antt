@@ -1,13 +1,11 @@
 -- `text::put_row` meets its contract. Assumes nothing.
 use mathlib.Core.List.{List, [], ◌∷◌}
 use mathlib.Core.Path.{◌≡◌, refl, ap}
-use Prim.Native.Nat.{ℕ, ◌+◌, ◌-◌, ◌≤◌}
+use Prim.Native.Nat.{ℕ, ◌+◌, ◌≤◌}
 use native.Mathlib.Omega.{arith}
 use lib.ListN.{length, take}
 use lib.Seq.{take_all}
-use borrow.Author.Rules.{rules}
 use Rattle.text.specs.Text.{spaced, line}
-use Rattle.text.specs.Writes.{Writes}
 use Rattle.text.proofs.Texts.{writes_none, writes_more, writes_word, word_room, length_line}
 use Rattle.text.proofs.put_row.Goals as goal
 

@@ -1,14 +1,9 @@
 -- What the loop keeps, and its measure.
-use mathlib.Core.List.{List, [], ◌∷◌}
-use mathlib.Core.Path.{◌≡◌, refl, ap}
-use Prim.Native.Nat.{ℕ, ◌+◌, ◌-◌, ◌≤◌}
-use native.Mathlib.Omega.{arith}
+use mathlib.Core.Path.{◌≡◌}
+use Prim.Native.Nat.{◌-◌, ◌≤◌}
 use lib.ListN.{length, take}
-use lib.Seq.{take_all}
-use borrow.Author.Rules.{rules}
-use Rattle.text.specs.Text.{spaced, line}
+use Rattle.text.specs.Text.{spaced}
 use Rattle.text.specs.Writes.{Writes}
-use Rattle.text.proofs.Texts.{writes_none, writes_more, writes_word, word_room, length_line}
 use Rattle.text.proofs.put_row.Given as goal
 
 abbrev pub invariant-loop-i : goal.invariant-loop-i

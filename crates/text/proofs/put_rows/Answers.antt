@@ -1,13 +1,12 @@
 -- `text::put_rows` meets its contract. Assumes nothing.
 use mathlib.Core.List.{List}
 use mathlib.Core.Path.{◌≡◌, refl, sym, ap}
-use Prim.Native.Nat.{ℕ, ◌+◌, ◌-◌, ◌*◌, ◌≤◌}
+use Prim.Native.Nat.{ℕ, ◌+◌, ◌-◌, ◌≤◌}
 use native.Mathlib.Nat.{zero-mul}
 use native.Mathlib.Omega.{arith}
 use lib.ListN.{length, take, drop}
-use Rattle.picture.specs.Fill.{flat, chunk, add_one_mul}
+use Rattle.picture.specs.Fill.{flat, add_one_mul}
 use Rattle.text.specs.Text.{spaced, line, row, rows}
-use Rattle.text.specs.Writes.{Writes}
 use Rattle.text.proofs.Texts.{writes_none, writes_flat, flat_room, row_at}
 use Rattle.text.proofs.put_rows.Invariants.{lines}
 use Rattle.text.proofs.put_rows.Goals as goal

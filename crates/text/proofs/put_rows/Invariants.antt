@@ -1,14 +1,11 @@
 -- What the loop keeps, and its measure.
 use mathlib.Core.List.{List}
-use mathlib.Core.Path.{◌≡◌, refl, sym, ap}
-use Prim.Native.Nat.{ℕ, ◌+◌, ◌-◌, ◌*◌, ◌≤◌}
-use native.Mathlib.Nat.{zero-mul}
-use native.Mathlib.Omega.{arith}
-use lib.ListN.{length, take, drop}
-use Rattle.picture.specs.Fill.{flat, chunk, add_one_mul}
-use Rattle.text.specs.Text.{spaced, line, row, rows}
+use mathlib.Core.Path.{◌≡◌}
+use Prim.Native.Nat.{ℕ, ◌-◌, ◌*◌, ◌≤◌}
+use lib.ListN.{length}
+use Rattle.picture.specs.Fill.{flat}
+use Rattle.text.specs.Text.{spaced, line, row}
 use Rattle.text.specs.Writes.{Writes}
-use Rattle.text.proofs.Texts.{writes_none, writes_flat, flat_room, row_at}
 use Rattle.text.proofs.put_rows.Given as goal
 
 -- each row's line

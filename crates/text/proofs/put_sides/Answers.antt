@@ -1,6 +1,5 @@
 -- `text::put_sides` meets its contract. Assumes nothing.
 use native.Mathlib.Omega.{arith}
-use borrow.Author.Rules.{rules}
 use Rattle.text.proofs.Texts.{length_sides, writes_sides}
 use Rattle.text.proofs.put_sides.Goals as goal
 

@@ -3,7 +3,6 @@ use mathlib.Core.List.{[], ◌∷◌, ◌++◌}
 use mathlib.Core.Path.{◌≡◌, sym, ◌∙◌, ap}
 use native.Mathlib.Omega.{arith}
 use lib.ListN.{length}
-use borrow.Author.Rules.{rules}
 use Rattle.text.specs.Text.{hex}
 use Rattle.text.specs.Writes.{gap}
 use Rattle.text.proofs.Texts.{length_hex, gap_first, gap_later, writes_as, writes_more}

@@ -2,14 +2,12 @@
 use mathlib.Core.Path.{refl}
 use Prim.Native.Nat.{ℕ, ◌-◌, ◌*◌}
 use native.Mathlib.Omega.{arith}
-use borrow.Author.Rules.{rules}
 use lib.ListN.{replicate, length-replicate}
 use Rattle.picture.specs.Picture.{words}
-use Rattle.grid.specs.declared.Grid.{Grid}
 use Rattle.block.specs.Block.{block_of}
 use Rattle.nine.specs.Nine.{enlarged}
 use Rattle.tiles.proofs.Tagged.{ready}
-use Rattle.tiles.proofs.Ring.{tile_of, Ringed, ringed, first_tile, first_room, second_tile, window_held, second_drawn}
+use Rattle.tiles.proofs.Ring.{first_tile, first_room, second_tile, window_held, second_drawn}
 use Rattle.tiles.proofs.draw_nine.Goals as goal
 
 pub enlarge-requires : goal.enlarge-requires

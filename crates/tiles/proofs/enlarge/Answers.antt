@@ -1,7 +1,6 @@
 -- `tiles::enlarge` meets its contract. Assumes nothing.
 use mathlib.Core.Path.{◌∙◌}
 use Prim.Native.Nat.{ℕ, ◌*◌}
-use borrow.Author.Rules.{rules}
 use lib.ListN.{length, replicate, length-replicate}
 use Rattle.tiles.proofs.Tagged.{rect_room, rect_drawn}
 use Rattle.tiles.proofs.enlarge.Goals as goal

@@ -4,8 +4,7 @@ use native.Mathlib.Omega.{arith}
 use Prim.Native.Nat.{◌≤◌}
 use lib.ListN.{length}
 use lib.Seq.{length-take-le}
-use Rattle.whole_palette.proofs.Called.{refused9, fits9, done9}
-use borrow.Author.Rules.{rules}
+use Rattle.whole_palette.proofs.Called.{fits9, done9}
 use Rattle.whole_palette.proofs.scale9x_palette.Goals as goal
 
 pub replace-requires : goal.replace-requires

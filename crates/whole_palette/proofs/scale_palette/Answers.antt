@@ -4,8 +4,7 @@ use native.Mathlib.Omega.{arith}
 use Prim.Native.Nat.{◌≤◌}
 use lib.ListN.{length}
 use lib.Seq.{length-take-le}
-use Rattle.whole_palette.proofs.Called.{refused, fits, done}
-use borrow.Author.Rules.{rules}
+use Rattle.whole_palette.proofs.Called.{fits, done}
 use Rattle.whole_palette.proofs.scale_palette.Goals as goal
 
 pub replace-requires : goal.replace-requires

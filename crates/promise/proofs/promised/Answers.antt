@@ -28,10 +28,9 @@ use Rattle.text.specs.Examples.{text_examples}
 use Rattle.page.proofs.Files.{whole_file}
 use Rattle.promise.proofs.Scaled3 as Scaled3
 use Rattle.promise.proofs.Scaled9 as Scaled9
-use Rattle.promise.proofs.promised.Statement.{statement}
-use Rattle.promise.proofs.promised.Tie as tie
+use Rattle.promise.proofs.promised.Goals as goal
 
-returns : tie.Need-returns
+pub returns : goal.returns
 returns c = record {
   three_times = every screen3 lawful3;
   nine_times = every screen9 lawful9;
@@ -64,6 +63,3 @@ returns c = record {
   files = file_examples;
   texts = text_examples;
 }
-
-pub promised_spec : {M : Type 1} → statement M
-promised_spec = tie.close (tie.spec returns)
