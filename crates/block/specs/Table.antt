@@ -11,7 +11,7 @@ use Rattle.single.specs.Single.{f0, f½, f1, max_of, min_of, clamp_of}
 use Rattle.single.specs.Root.{sqrt_of}
 use Rattle.metric.specs.Distance.{distance_of, weighted_of, norm}
 use Rattle.weight.specs.Weight.{weight_at, corner_weight_of}
-use Rattle.tag.specs.Tag.{trace_edges, trace_flags, corner_tag, mid_tag, if◌then◌else◌}
+use Rattle.tag.specs.Tag.{trace_edges, trace_flags, corner_tag, mid_tag, when◌then◌else◌}
 use Rattle.tag.specs.Laws.{tag_at0}
 
 -- a bit pattern's single, and a single's bit pattern
@@ -52,7 +52,7 @@ agree (e ∷ es) = eqb e.given e.tabled && agree es
 
 -- the checker computes the thirteen tests
 computed : agree table ≡ true
-unfolding table sqrt_of distance_of weighted_of norm weight_at corner_weight_of trace_edges trace_flags corner_tag mid_tag if◌then◌else◌
+unfolding table sqrt_of distance_of weighted_of norm weight_at corner_weight_of trace_edges trace_flags corner_tag mid_tag when◌then◌else◌
     max_of min_of clamp_of add sub mul div neg lt of_int of_bits to_bits
 computed = refl
 

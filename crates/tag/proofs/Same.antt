@@ -11,7 +11,7 @@ use Rattle.lanes.proofs.Laws.{byte0, byte1, byte2, byte3}
 use Rattle.lanes.proofs.Laws.{across_lanes, down_lanes, opposite_lanes, beside_lanes, above_lanes, own_lanes, after_lanes}
 use Rattle.lanes.proofs.Laws.{and_flags, or_flags, not_flags, choose_flags}
 use Rattle.tag.specs.declared.Neighbors.{Neighbors}
-use Rattle.tag.specs.Tag.{if◌then◌else◌, decode_flags, corner_tag, mid_tag, trace_flags, trace_edges}
+use Rattle.tag.specs.Tag.{when◌then◌else◌, decode_flags, corner_tag, mid_tag, trace_flags, trace_edges}
 use Rattle.tag.specs.Laws.{corner_le, mid_le, packed}
 use Rattle.tag.specs.Words.{around_of, level2_of, level3_of, level4_near, level4_of, level5_of, level6_of}
 use Rattle.tag.specs.Words.{far_corners, far_mids, far_of, corners_of, both_of, mids_of, tags_word, split_of}
@@ -81,7 +81,7 @@ module _ (e dl dl2 dl3 dr dr2 dr3 du du2 du3 dd dd2 dd3 : Junctions) where
       (decode_flags du) (decode_flags du2) (decode_flags du3) (decode_flags dd) (decode_flags dd2) (decode_flags dd3)
 
   corner_tags : corners_of (word_of e) (level3_of (level2_of (word_of e) n) n) (far_corners n l4 (level6_of l5 n3)) ≡ lanes (c 0) (c 1) (c 2) (c 3)
-  unfolding corners_of far_corners level2_of level3_of level4_near level4_of level5_of level6_of corner_tag if◌then◌else◌
+  unfolding corners_of far_corners level2_of level3_of level4_near level4_of level5_of level6_of corner_tag when◌then◌else◌
   corner_tags =
       simp (
         actives,
@@ -99,7 +99,7 @@ module _ (e dl dl2 dl3 dr dr2 dr3 du du2 du3 dd dd2 dd3 : Junctions) where
       )
 
   mid_tags : mids_of (word_of e) (level2_of (word_of e) n) n (far_mids n l5) ≡ lanes (m 0) (m 1) (m 2) (m 3)
-  unfolding mids_of both_of far_mids level2_of level4_near level4_of level5_of mid_tag if◌then◌else◌
+  unfolding mids_of both_of far_mids level2_of level4_near level4_of level5_of mid_tag when◌then◌else◌
   mid_tags =
       simp (
         actives,

@@ -6,17 +6,17 @@ use Rattle.std.proofs.Common.{arith, lit≤}
 use Rattle.picture.specs.Local.{reaches}
 use Rattle.junction.specs.declared.Junctions.{Junctions}
 use Rattle.tag.specs.declared.Tags.{Tags}
-use Rattle.tag.specs.Tag.{if◌then◌else◌, JunctionFlags, tag_number, corner_tag, mid_tag, trace_flags, trace_edges, offset_of}
+use Rattle.tag.specs.Tag.{when◌then◌else◌, JunctionFlags, tag_number, corner_tag, mid_tag, trace_flags, trace_edges, offset_of}
 use Rattle.tag.specs.Claims.{Packed}
 
 -- ---- the range
-either : (t : Bool) (a b : ℕ) → a ≤ 8 → b ≤ 8 → (if t then a else b) ≤ 8
-unfolding if◌then◌else◌
+either : (t : Bool) (a b : ℕ) → a ≤ 8 → b ≤ 8 → (when t then a else b) ≤ 8
+unfolding when◌then◌else◌
 either true a b h k = h
 either false a b h k = k
 
 -- a branch with a tag, and the branches after it
-or_else : (t : Bool) (a b : ℕ) → T (leb a 8) → b ≤ 8 → (if t then a else b) ≤ 8
+or_else : (t : Bool) (a b : ℕ) → T (leb a 8) → b ≤ 8 → (when t then a else b) ≤ 8
 or_else t a b h k = either t a b (lit≤ h) k
 
 pub packed : (c m : ℕ) → c ≤ 8 → m ≤ 8 → Packed (tag_number c m) c m

@@ -47,9 +47,9 @@ decode_flags val = record {
   orient = four (orientation val.n0) (orientation val.n1) (orientation val.n2) (orientation val.n3);
 }
 
-infixr 10 if◌then◌else◌
-unfoldable pub if◌then◌else◌ : Bool → ℕ → ℕ → ℕ
-if t then a else b = cond t a b
+infixr 10 when◌then◌else◌
+unfoldable pub when◌then◌else◌ : Bool → ℕ → ℕ → ℕ
+when t then a else b = cond t a b
 
 -- the tags: which neighbour fills a part of the block
 abbrev pub CENTER : ℕ
@@ -193,75 +193,75 @@ module _ (e dl dl2 dl3 dr dr2 dr3 du du2 du3 dd dd2 dd3 : JunctionFlags) where
   unfoldable pub corner_tag : ℕ → ℕ
   corner_tag =
       four
-      (if l1 0 && eo 0 || l3 0 0 && eo 1 || l4 0 0 && lo 0 || l6 0 0 && ro 1 then UP
-      else if l1 0 || l3 0 1 && not (eo 3) || l4 0 1 && not (uo 0) || l6 0 1 && not (ddo 3) then LEFT
-      else if l3 0 0 then RIGHT
-      else if l3 0 1 then DOWN
-      else if l4 0 0 then LEFT2
-      else if l4 0 1 then UP2
-      else if l6 0 0 then RIGHT2
-      else if l6 0 1 then DOWN2
+      (when l1 0 && eo 0 || l3 0 0 && eo 1 || l4 0 0 && lo 0 || l6 0 0 && ro 1 then UP
+      else when l1 0 || l3 0 1 && not (eo 3) || l4 0 1 && not (uo 0) || l6 0 1 && not (ddo 3) then LEFT
+      else when l3 0 0 then RIGHT
+      else when l3 0 1 then DOWN
+      else when l4 0 0 then LEFT2
+      else when l4 0 1 then UP2
+      else when l6 0 0 then RIGHT2
+      else when l6 0 1 then DOWN2
       else CENTER)
-      (if l1 1 && eo 1 || l3 1 0 && eo 0 || l4 1 0 && ro 1 || l6 1 0 && lo 0 then UP
-      else if l1 1 || l3 1 1 && not (eo 2) || l4 1 1 && not (uo 1) || l6 1 1 && not (ddo 2) then RIGHT
-      else if l3 1 0 then LEFT
-      else if l3 1 1 then DOWN
-      else if l4 1 0 then RIGHT2
-      else if l4 1 1 then UP2
-      else if l6 1 0 then LEFT2
-      else if l6 1 1 then DOWN2
+      (when l1 1 && eo 1 || l3 1 0 && eo 0 || l4 1 0 && ro 1 || l6 1 0 && lo 0 then UP
+      else when l1 1 || l3 1 1 && not (eo 2) || l4 1 1 && not (uo 1) || l6 1 1 && not (ddo 2) then RIGHT
+      else when l3 1 0 then LEFT
+      else when l3 1 1 then DOWN
+      else when l4 1 0 then RIGHT2
+      else when l4 1 1 then UP2
+      else when l6 1 0 then LEFT2
+      else when l6 1 1 then DOWN2
       else CENTER)
-      (if l1 2 && eo 2 || l3 2 0 && eo 3 || l4 2 0 && ro 2 || l6 2 0 && lo 3 then DOWN
-      else if l1 2 || l3 2 1 && not (eo 1) || l4 2 1 && not (ddo 2) || l6 2 1 && not (uo 1) then RIGHT
-      else if l3 2 0 then LEFT
-      else if l3 2 1 then UP
-      else if l4 2 0 then RIGHT2
-      else if l4 2 1 then DOWN2
-      else if l6 2 0 then LEFT2
-      else if l6 2 1 then UP2
+      (when l1 2 && eo 2 || l3 2 0 && eo 3 || l4 2 0 && ro 2 || l6 2 0 && lo 3 then DOWN
+      else when l1 2 || l3 2 1 && not (eo 1) || l4 2 1 && not (ddo 2) || l6 2 1 && not (uo 1) then RIGHT
+      else when l3 2 0 then LEFT
+      else when l3 2 1 then UP
+      else when l4 2 0 then RIGHT2
+      else when l4 2 1 then DOWN2
+      else when l6 2 0 then LEFT2
+      else when l6 2 1 then UP2
       else CENTER)
-      (if l1 3 && eo 3 || l3 3 0 && eo 2 || l4 3 0 && lo 3 || l6 3 0 && ro 2 then DOWN
-      else if l1 3 || l3 3 1 && not (eo 0) || l4 3 1 && not (ddo 3) || l6 3 1 && not (uo 0) then LEFT
-      else if l3 3 0 then RIGHT
-      else if l3 3 1 then UP
-      else if l4 3 0 then LEFT2
-      else if l4 3 1 then DOWN2
-      else if l6 3 0 then RIGHT2
-      else if l6 3 1 then UP2
+      (when l1 3 && eo 3 || l3 3 0 && eo 2 || l4 3 0 && lo 3 || l6 3 0 && ro 2 then DOWN
+      else when l1 3 || l3 3 1 && not (eo 0) || l4 3 1 && not (ddo 3) || l6 3 1 && not (uo 0) then LEFT
+      else when l3 3 0 then RIGHT
+      else when l3 3 1 then UP
+      else when l4 3 0 then LEFT2
+      else when l4 3 1 then DOWN2
+      else when l6 3 0 then RIGHT2
+      else when l6 3 1 then UP2
       else CENTER)
 
   -- Section 5's m: the mid-edge tags
   unfoldable pub mid_tag : ℕ → ℕ
   mid_tag =
       four
-      (if l2 0 0 && eo 0 || l2 0 1 && eo 1 || l5 0 0 && lo 0 || l5 0 1 && ro 1 then UP
-      else if l2 0 0 then LEFT
-      else if l2 0 1 then RIGHT
-      else if l5 0 0 then LEFT2
-      else if l5 0 1 then RIGHT2
-      else if e.corner 0 && dl.corner 2 && e.corner 1 && dr.corner 3 then (if eo 0 then if eo 1 then UP else RIGHT else LEFT)
+      (when l2 0 0 && eo 0 || l2 0 1 && eo 1 || l5 0 0 && lo 0 || l5 0 1 && ro 1 then UP
+      else when l2 0 0 then LEFT
+      else when l2 0 1 then RIGHT
+      else when l5 0 0 then LEFT2
+      else when l5 0 1 then RIGHT2
+      else when e.corner 0 && dl.corner 2 && e.corner 1 && dr.corner 3 then (when eo 0 then when eo 1 then UP else RIGHT else LEFT)
       else CENTER)
-      (if l2 1 0 && not (eo 1) || l2 1 1 && not (eo 2) || l5 1 0 && not (uo 1) || l5 1 1 && not (ddo 2) then RIGHT
-      else if l2 1 0 then UP
-      else if l2 1 1 then DOWN
-      else if l5 1 0 then UP2
-      else if l5 1 1 then DOWN2
-      else if e.corner 1 && du.corner 3 && e.corner 2 && dd.corner 0 then
-      (if not (eo 1) then if not (eo 2) then RIGHT else DOWN else UP)
+      (when l2 1 0 && not (eo 1) || l2 1 1 && not (eo 2) || l5 1 0 && not (uo 1) || l5 1 1 && not (ddo 2) then RIGHT
+      else when l2 1 0 then UP
+      else when l2 1 1 then DOWN
+      else when l5 1 0 then UP2
+      else when l5 1 1 then DOWN2
+      else when e.corner 1 && du.corner 3 && e.corner 2 && dd.corner 0 then
+      (when not (eo 1) then when not (eo 2) then RIGHT else DOWN else UP)
       else CENTER)
-      (if l2 2 0 && eo 3 || l2 2 1 && eo 2 || l5 2 0 && lo 3 || l5 2 1 && ro 2 then DOWN
-      else if l2 2 0 then LEFT
-      else if l2 2 1 then RIGHT
-      else if l5 2 0 then LEFT2
-      else if l5 2 1 then RIGHT2
-      else if e.corner 2 && dr.corner 0 && e.corner 3 && dl.corner 1 then (if eo 2 then if eo 3 then DOWN else LEFT else RIGHT)
+      (when l2 2 0 && eo 3 || l2 2 1 && eo 2 || l5 2 0 && lo 3 || l5 2 1 && ro 2 then DOWN
+      else when l2 2 0 then LEFT
+      else when l2 2 1 then RIGHT
+      else when l5 2 0 then LEFT2
+      else when l5 2 1 then RIGHT2
+      else when e.corner 2 && dr.corner 0 && e.corner 3 && dl.corner 1 then (when eo 2 then when eo 3 then DOWN else LEFT else RIGHT)
       else CENTER)
-      (if l2 3 0 && not (eo 0) || l2 3 1 && not (eo 3) || l5 3 0 && not (uo 0) || l5 3 1 && not (ddo 3) then LEFT
-      else if l2 3 0 then UP
-      else if l2 3 1 then DOWN
-      else if l5 3 0 then UP2
-      else if l5 3 1 then DOWN2
-      else if e.corner 3 && dd.corner 1 && e.corner 0 && du.corner 2 then (if not (eo 3) then if not (eo 0) then LEFT else UP else DOWN)
+      (when l2 3 0 && not (eo 0) || l2 3 1 && not (eo 3) || l5 3 0 && not (uo 0) || l5 3 1 && not (ddo 3) then LEFT
+      else when l2 3 0 then UP
+      else when l2 3 1 then DOWN
+      else when l5 3 0 then UP2
+      else when l5 3 1 then DOWN2
+      else when e.corner 3 && dd.corner 1 && e.corner 0 && du.corner 2 then (when not (eo 3) then when not (eo 0) then LEFT else UP else DOWN)
       else CENTER)
 
   unfoldable pub trace_flags : Tags
