@@ -13,7 +13,7 @@ use Rattle.machine.specs.Lists.{count}
 use Rattle.machine.specs.Screen.{Screen, Lawful, block_words}
 use Rattle.machine.specs.Machine.{State, Call, Paint, Refresh, Lock, Answer, Painted, Refreshed, Locked, header_of, step, after, answers}
 use Rattle.machine.specs.Calls.{is_stale, stale_of, PaintEnd, RefreshEnd, paint_end, refresh_end}
-use Rattle.machine.specs.Demand3.{Buffers, Ran, none, paint, paint_list, refresh, show, lock, Trace, started, left, Follows}
+use Rattle.machine.specs.Demand3.{Buffers, Ran, none, paint, paint_list, refresh, show, lock, Trace, started, left, Follows, latest}
 use Rattle.machine.proofs.Lists.{stale_bytes}
 use Rattle.machine.proofs.Good.{Good}
 use Rattle.machine.proofs.Held.{held, stale_held}
@@ -333,8 +333,8 @@ cut {header = header} {b = b} {r = r} {seen = seen} [] after f = record {
   first = events.none;
   second = f;
 }
-cut (Write a v ∷ before) after (events.write {d = d} x f) =
-    let i = cut before after f in
+cut {S = S} {header = header} {last = last} {b = b} {e = e} {r = r} {r' = r'} (Write a v ∷ before) after (events.write {seen = seen} {d = d} x f) =
+    let i = cut {b = record { picture = d.picture; output = d.output; marks = d.marks }} before after f in
     let s : Seen = record { reply = Written d.refusal; registers = d.registers } in
     record {
       mid = i.mid;
@@ -346,8 +346,8 @@ cut (Write a v ∷ before) after (events.write {d = d} x f) =
       first = events.write x i.first;
       second = i.second;
     }
-cut {r = r} (Read a ∷ before) after (events.read {d = d} x f) =
-    let i = cut before after f in
+cut {S = S} {header = header} {last = last} {b = b} {e = e} {r = r} {r' = r'} (Read a ∷ before) after (events.read {seen = seen} {d = d} x f) =
+    let i = cut {b = b} before after f in
     let s : Seen = record { reply = Got d.refusal d.value; registers = r } in
     record {
       mid = i.mid;
@@ -359,8 +359,8 @@ cut {r = r} (Read a ∷ before) after (events.read {d = d} x f) =
       first = events.read x i.first;
       second = i.second;
     }
-cut {r = r} (LockCall l ∷ before) after (events.lock {d = d} x f) =
-    let i = cut before after f in
+cut {S = S} {header = header} {last = last} {b = b} {e = e} {r = r} {r' = r'} (LockCall l ∷ before) after (events.lock {seen = seen} {d = d} x f) =
+    let i = cut {header = latest header d} {b = b} before after f in
     let s : Seen = record { reply = Called (Locked d.refusal d.header); registers = r } in
     record {
       mid = i.mid;
