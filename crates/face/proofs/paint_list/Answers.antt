@@ -2,7 +2,6 @@
 use mathlib.Core.Path.{subst, sym}
 use mathlib.Core.List.{map}
 use lib.ListN.{length, length-map}
-use borrow.Author.Rules.{rules}
 use Rattle.header.specs.declared.Header.{Header}
 use Rattle.machine.specs.Calls.{PaintListEnd, PaintLists}
 use Rattle.machine.proofs.ListEnds.{list_gathered}

@@ -1,17 +1,14 @@
 -- `refreshed::refresh` meets its contract. Assumes nothing.
-use mathlib.Core.Path.{◌≡◌, sym, ap, ap₂, ◌∙◌}
+use mathlib.Core.Path.{◌≡◌, ap, ap₂, ◌∙◌}
 use Prim.Native.Nat.{ℕ, ◌-◌, ◌*◌}
 use native.Mathlib.Omega.{arith}
-use borrow.Author.Rules.{rules}
 use lib.ListN.{length}
 use Rattle.machine.specs.Screen.{block_words}
 use Rattle.machine.specs.Calls.{refusal_all}
-use Rattle.machine.specs.Lent.{Lent}
 use Rattle.machine.proofs.Lists.{first_from_length}
-use Rattle.machine.proofs.Ends.{lent, refresh_refused, refresh_done}
+use Rattle.machine.proofs.Ends.{refresh_refused, refresh_done}
 use Rattle.marks.specs.Marks.{stale_in}
 use Rattle.screens.specs.Screens.{screen_of}
-use Rattle.screens.proofs.Screens.{sides, many}
 use Rattle.refreshed.proofs.refresh.Goals as goal
 
 pub returns-then-refusal-ne0 : goal.returns-then-refusal-ne0
