@@ -21,7 +21,7 @@ fn refresh(
     n: u32,
 ) -> io::Result<()> {
     let r = session.refresh(picture, output, marks, n);
-    line(rt, "refresh", r.refusal, r.drawn, r.left)
+    line(rt, b"refresh", r.refusal, r.drawn, r.left)
 }
 
 fn paint(
@@ -34,7 +34,7 @@ fn paint(
     word: u32,
 ) -> io::Result<()> {
     let p = session.paint(picture, marks, column, row, word);
-    line(rt, "paint", p.refusal, p.changed, p.stale)
+    line(rt, b"paint", p.refusal, p.changed, p.stale)
 }
 
 fn show(
@@ -46,7 +46,7 @@ fn show(
     by: u32,
 ) -> io::Result<()> {
     let s = session.show(output, marks, bx, by);
-    line(rt, "show", s.refusal, s.words[0], s.words[4])
+    line(rt, b"show", s.refusal, s.words[0], s.words[4])
 }
 
 // The rectangle locked, and the session that later calls are lent: the one answered, or after a refusal the one before.
@@ -114,7 +114,7 @@ fn list(
     n: u32,
 ) -> io::Result<()> {
     let p = session.paint_gathered(picture, marks, a, n as usize);
-    line(rt, "list", p.refusal, p.stale, n)
+    line(rt, b"list", p.refusal, p.stale, n)
 }
 
 // Four paints, lent as a slice.
@@ -138,7 +138,7 @@ fn four(
     a: [Paint; 4],
 ) -> io::Result<()> {
     let p = lend(session, picture, marks, a);
-    line(rt, "list", p.refusal, p.stale, 4)
+    line(rt, b"list", p.refusal, p.stale, 4)
 }
 
 fn item(column: u32, row: u32, word: u32) -> Paint {
@@ -157,7 +157,7 @@ fn repeated(
     a[1] = item(0, 0, 6);
     a[2] = item(0, 0, 1);
     list(rt, session, picture, marks, a, 3)?;
-    line(rt, "words", picture[0], picture[6], 0)
+    line(rt, b"words", picture[0], picture[6], 0)
 }
 
 // Through a slice: the last of four in the lock, and then the four taken.
@@ -169,10 +169,10 @@ fn lent(
 ) -> io::Result<()> {
     let b = [item(0, 0, 8), item(1, 0, 9), item(0, 0, 10), item(3, 2, 5)];
     four(rt, session, picture, marks, b)?;
-    line(rt, "words", picture[0], picture[1], picture[11])?;
+    line(rt, b"words", picture[0], picture[1], picture[11])?;
     let c = [item(0, 0, 8), item(1, 0, 9), item(0, 0, 10), item(3, 2, 1)];
     four(rt, session, picture, marks, c)?;
-    line(rt, "words", picture[0], picture[1], picture[11])
+    line(rt, b"words", picture[0], picture[1], picture[11])
 }
 
 // Lists of paints on a picture of 4 by 3 with its last four pixels locked: each line has the refusal, the stale count and the items.
@@ -192,7 +192,7 @@ fn lists(rt: &impl Print) -> io::Result<()> {
     a[0] = item(0, 0, 5);
     a[2] = item(2, 1, 5);
     list(rt, s, &mut picture, &mut marks, a, 3)?;
-    line(rt, "words", picture[0], picture[6], 0)?;
+    line(rt, b"words", picture[0], picture[6], 0)?;
     // A position outside behind it, and before it.
     a[2] = item(4, 0, 1);
     list(rt, s, &mut picture, &mut marks, a, 3)?;
@@ -256,7 +256,7 @@ fn unlawful(rt: &impl Print) -> io::Result<()> {
     show(rt, s, &output, &marks, 2, 0)?;
     lock(rt, s, 0, 0, 0, 0)?;
     lock(rt, s, 1, 0, 2, 1)?;
-    line(rt, "kept", picture[0], output[0], short[0])
+    line(rt, b"kept", picture[0], output[0], short[0])
 }
 
 // A session opened at a setting.
@@ -265,7 +265,7 @@ fn opened(rt: &impl Print, clarity: Clarity) -> io::Result<()> {
     let mut output = [7u32; 9];
     let mut marks = [3u8; 1];
     let o = Session3x::open(1, 1, clarity, &picture, &mut output, &mut marks);
-    line(rt, "open", o.refusal, output[0], o.stale)
+    line(rt, b"open", o.refusal, output[0], o.stale)
 }
 
 // Both zeros, the smallest subnormal, 1.0 and the single above it, the infinities and what is not a number.
@@ -301,7 +301,7 @@ fn drawn(rt: &impl Print, clarity: Clarity) -> io::Result<()> {
     let s = lock(rt, o.session, 0, 0, 1, 1)?;
     refresh(rt, s, &picture, &mut output, &mut marks, 16)?;
     let b = s.show(&output, &marks, 2, 2);
-    line(rt, "block", b.words[2], b.words[3], b.words[6])
+    line(rt, b"block", b.words[2], b.words[3], b.words[6])
 }
 
 // A side past the limit.
@@ -317,7 +317,7 @@ fn too_wide(rt: &impl Print) -> io::Result<()> {
         &mut output,
         &mut marks,
     );
-    line(rt, "open", o.refusal, o.session.header.w, o.stale)
+    line(rt, b"open", o.refusal, o.session.header.w, o.stale)
 }
 
 // On a picture that is drawn: a paint outside, one of an equal word, and one of a word that differs in its top byte alone, which makes a
@@ -344,7 +344,7 @@ fn crosses(rt: &impl Print) -> io::Result<()> {
     let mut marks = [0u8; 1024];
     let o = Session3x::open(32, 32, Clarity::Standard, &picture, &mut output, &mut marks);
     let s = o.session;
-    line(rt, "open", o.refusal, s.header.w, o.stale)?;
+    line(rt, b"open", o.refusal, s.header.w, o.stale)?;
     show(rt, s, &output, &marks, 0, 0)?;
     refresh(rt, s, &picture, &mut output, &mut marks, 0)?;
     refresh(rt, s, &picture, &mut output, &mut marks, 4294967295)?;

@@ -18,7 +18,7 @@ fn refresh(
     n: u32,
 ) -> io::Result<()> {
     let r = session.refresh(picture, output, marks, n);
-    line(rt, "refresh", r.refusal, r.drawn, r.left)
+    line(rt, b"refresh", r.refusal, r.drawn, r.left)
 }
 
 fn paint(
@@ -31,7 +31,7 @@ fn paint(
     word: u32,
 ) -> io::Result<()> {
     let p = session.paint(picture, marks, column, row, word);
-    line(rt, "paint", p.refusal, p.changed, p.stale)
+    line(rt, b"paint", p.refusal, p.changed, p.stale)
 }
 
 // The refusal, and the first and the middle word of a block's 81.
@@ -44,7 +44,7 @@ fn show(
     by: u32,
 ) -> io::Result<()> {
     let s = session.show(output, marks, bx, by);
-    line(rt, "show", s.refusal, s.words[0], s.words[40])
+    line(rt, b"show", s.refusal, s.words[0], s.words[40])
 }
 
 fn list(
@@ -56,7 +56,7 @@ fn list(
     n: u32,
 ) -> io::Result<()> {
     let p = session.paint_gathered(picture, marks, a, n as usize);
-    line(rt, "list", p.refusal, p.stale, n)
+    line(rt, b"list", p.refusal, p.stale, n)
 }
 
 // On a picture that is drawn: a paint outside, one of an equal word, and one of a word that differs in its top byte alone; shows of a
@@ -83,7 +83,7 @@ fn boxes(rt: &impl Print) -> io::Result<()> {
     let mut marks = [0u8; 1024];
     let o = Session9x::open(32, 32, Clarity::Standard, &picture, &mut output, &mut marks);
     let s = o.session;
-    line(rt, "open", o.refusal, s.header.w, o.stale)?;
+    line(rt, b"open", o.refusal, s.header.w, o.stale)?;
     show(rt, s, &output, &marks, 0, 0)?;
     refresh(rt, s, &picture, &mut output, &mut marks, 0)?;
     refresh(rt, s, &picture, &mut output, &mut marks, 4294967295)?;
@@ -103,11 +103,11 @@ fn sides(rt: &impl Print) -> io::Result<()> {
     let mut output = [7u32; 55242];
     let mut marks = [3u8; 682];
     let o = Session9x::open(682, 1, Clarity::Standard, &picture, &mut output, &mut marks);
-    line(rt, "open", o.refusal, o.session.header.w, o.stale)?;
+    line(rt, b"open", o.refusal, o.session.header.w, o.stale)?;
     let p = Session9x::open(683, 1, Clarity::Standard, &picture, &mut output, &mut marks);
-    line(rt, "open", p.refusal, p.session.header.w, p.stale)?;
+    line(rt, b"open", p.refusal, p.session.header.w, p.stale)?;
     let q = Session9x::open(1, 683, Clarity::Standard, &picture, &mut output, &mut marks);
-    line(rt, "open", q.refusal, q.session.header.w, q.stale)
+    line(rt, b"open", q.refusal, q.session.header.w, q.stale)
 }
 
 // A lock and lists of paints on a picture of 4 by 3: 64 items are looked at, and of 65 none.
@@ -124,7 +124,7 @@ fn lists(rt: &impl Print) -> io::Result<()> {
     });
     line(
         rt,
-        "lock",
+        b"lock",
         l.refusal,
         l.session.header.w,
         l.session.header.lock.left,
@@ -146,7 +146,7 @@ fn lists(rt: &impl Print) -> io::Result<()> {
     list(rt, s, &mut picture, &mut marks, a, 2)?;
     list(rt, s, &mut picture, &mut marks, a, 1)?;
     list(rt, s, &mut picture, &mut marks, a, 65)?;
-    line(rt, "words", picture[0], picture[6], 0)?;
+    line(rt, b"words", picture[0], picture[6], 0)?;
     let t = s.lock(Rectangle {
         left: 3,
         top: 1,
@@ -155,7 +155,7 @@ fn lists(rt: &impl Print) -> io::Result<()> {
     });
     line(
         rt,
-        "lock",
+        b"lock",
         t.refusal,
         t.session.header.w,
         t.session.header.lock.left,
@@ -207,7 +207,7 @@ fn wild(rt: &impl Print) -> io::Result<()> {
     };
     refresh(rt, odd, &picture, &mut output, &mut marks, 4)?;
     show(rt, odd, &output, &marks, 0, 0)?;
-    line(rt, "kept", output[0], output[323], 0)
+    line(rt, b"kept", output[0], output[323], 0)
 }
 
 fn main(rt: HostRuntime) -> io::Result<()> {

@@ -7,6 +7,7 @@ pub fn number(rt: &impl Print, n: u32) -> io::Result<()> {
     print!(rt; " {n}")
 }
 
-pub fn line(rt: &impl Print, name: &str, a: u32, b: u32, c: u32) -> io::Result<()> {
-    println!(rt; "{name} {a} {b} {c}")
+pub fn line(rt: &impl Print, name: &[u8], a: u32, b: u32, c: u32) -> io::Result<()> {
+    rt.write_all(name)?;
+    println!(rt; " {a} {b} {c}")
 }
