@@ -1,6 +1,6 @@
 // Sixteen registers before a session, as bytes: what they start as, what a read gives, what a write stores in them, and what a command's
-// answer leaves in them. `specs/Address.antt` has their addresses in order, `specs/Registers.antt` says what becomes of each. The session's
-// calls are made by the crate `registers3x`.
+// answer leaves in them. `specs/Address.antt` has their addresses in order, `specs/Registers.antt` says what becomes of each. No crate makes
+// the session's calls by them yet.
 #![tactic(auto)]
 
 ghost use Rattle.std.specs.Prelude.{◌≡◌, ◌+◌, ◌*◌};
