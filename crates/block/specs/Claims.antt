@@ -1,4 +1,4 @@
--- What sections 3 and 6 say of a block, for every size of picture, and the table. Definitions only; `Theorem.antt` proves it.
+-- What sections 3 and 6 say of a block, for every size of picture, and the table. Definitions only; `proofs/Theorem.antt` proves it.
 use Rattle.std.specs.Prelude.{◌≡◌, ℕ, ◌+◌, ◌-◌, ◌<◌, length, get_or}
 use Rattle.picture.specs.Local.{Agree}
 use Rattle.picture.specs.Span.{Span}

@@ -1,7 +1,6 @@
 pub mod Block
 pub mod Locality
 pub mod Table
-pub mod Standard
 pub mod Store
 pub mod StoreLaws
 pub mod Placed
@@ -10,4 +9,3 @@ pub mod Drawn
 pub mod Copies
 pub mod Ring
 pub mod Claims
-pub mod Theorem

@@ -24,9 +24,9 @@ module _ (ow at : ℕ) (blocks : ℕ → List ℕ) (l₀ : List ℕ) where
     y₁ : List ℕ
     y₁ = put at (strip blocks 0 n) l₀
 
-    y₁-long : length y₁ ≡ length l₀
+    y₁_long : length y₁ ≡ length l₀
     unfolding y₁
-    y₁-long = length_put at (strip blocks 0 n) l₀ (omega (arith, strip_length blocks 0 n))
+    y₁_long = length_put at (strip blocks 0 n) l₀ (omega (arith, strip_length blocks 0 n))
 
     -- the next piece of the first strip goes below the other two
     first : put (at + n * 3) (third 0 (blocks n)) (put (at + 2 * ow) (strip blocks 2 n) (put (at + ow) (strip blocks 1 n) y₁))
@@ -36,7 +36,7 @@ module _ (ow at : ℕ) (blocks : ℕ → List ℕ) (l₀ : List ℕ) where
         let e0 = strip_length blocks 0 n in
         let e1 = strip_length blocks 1 n in
         let e2 = strip_length blocks 2 n in
-        let m = y₁-long in
+        let m = y₁_long in
         let k = length_put (at + ow) (strip blocks 1 n) y₁ (omega arith) in
         put_comm (at + n * 3) (at + 2 * ow) (third 0 (blocks n)) (strip blocks 2 n) (put (at + ow) (strip blocks 1 n) y₁) (omega arith) (omega arith)
         ∙ ap (put (at + 2 * ow) (strip blocks 2 n))
@@ -48,16 +48,16 @@ module _ (ow at : ℕ) (blocks : ℕ → List ℕ) (l₀ : List ℕ) where
     y₂ : List ℕ
     y₂ = put at (strip blocks 0 (suc n)) l₀
 
-    y₂-long : length y₂ ≡ length l₀
+    y₂_long : length y₂ ≡ length l₀
     unfolding y₂
-    y₂-long = length_put at (strip blocks 0 (suc n)) l₀ (omega (arith, strip_length blocks 0 (suc n), suc-mul n 3))
+    y₂_long = length_put at (strip blocks 0 (suc n)) l₀ (omega (arith, strip_length blocks 0 (suc n), suc-mul n 3))
 
     second : put (at + ow + n * 3) (third 1 (blocks n)) (put (at + 2 * ow) (strip blocks 2 n) (put (at + ow) (strip blocks 1 n) y₂))
         ≡ put (at + 2 * ow) (strip blocks 2 n) (put (at + ow) (strip blocks 1 (suc n)) y₂)
     second =
         let e1 = strip_length blocks 1 n in
         let e2 = strip_length blocks 2 n in
-        let m = y₂-long in
+        let m = y₂_long in
         let k = length_put (at + ow) (strip blocks 1 n) y₂ (omega arith) in
         put_comm (at + ow + n * 3) (at + 2 * ow) (third 1 (blocks n)) (strip blocks 2 n) (put (at + ow) (strip blocks 1 n) y₂) (omega arith) (omega arith)
         ∙ ap (λ (i : ℕ). put (at + 2 * ow) (strip blocks 2 n) (put (at + ow + i) (third 1 (blocks n)) (put (at + ow) (strip blocks 1 n) y₂))) (sym e1)
@@ -66,14 +66,14 @@ module _ (ow at : ℕ) (blocks : ℕ → List ℕ) (l₀ : List ℕ) where
     y₃ : List ℕ
     y₃ = put (at + ow) (strip blocks 1 (suc n)) y₂
 
-    y₃-long : length y₃ ≡ length l₀
+    y₃_long : length y₃ ≡ length l₀
     unfolding y₃
-    y₃-long = length_put (at + ow) (strip blocks 1 (suc n)) y₂ (omega (arith, strip_length blocks 1 (suc n), suc-mul n 3, y₂-long)) ∙ y₂-long
+    y₃_long = length_put (at + ow) (strip blocks 1 (suc n)) y₂ (omega (arith, strip_length blocks 1 (suc n), suc-mul n 3, y₂_long)) ∙ y₂_long
 
     third_put : put (at + 2 * ow + n * 3) (third 2 (blocks n)) (put (at + 2 * ow) (strip blocks 2 n) y₃) ≡ put (at + 2 * ow) (strip blocks 2 (suc n)) y₃
     third_put =
         let e2 = strip_length blocks 2 n in
-        let m = y₃-long in
+        let m = y₃_long in
         ap (λ (i : ℕ). put (at + 2 * ow + i) (third 2 (blocks n)) (put (at + 2 * ow) (strip blocks 2 n) y₃)) (sym e2)
         ∙ put_put (at + 2 * ow) (strip blocks 2 n) (third 2 (blocks n)) y₃ (omega arith)
 

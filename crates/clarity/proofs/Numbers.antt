@@ -13,8 +13,8 @@ use lib.Ieee.Positive.{positive, positive_of_value}
 use borrow.Author.Tests.{eqb-true, eqb-false, ltb-true, ltb-false}
 use Rattle.single.specs.Single.{f0, f1}
 use Rattle.single.specs.Root.{single, rooted}
-use Rattle.single.specs.Laws.{single_mono}
-use Rattle.single.specs.Floats.{has_value, of_bits_rooted, of_bits_mono}
+use Rattle.single.proofs.Laws.{single_mono}
+use Rattle.single.proofs.Floats.{has_value, of_bits_rooted, of_bits_mono}
 use Rattle.clarity.specs.declared.Clarity.TheVariants.{Standard, Threshold, Gated}
 use Rattle.clarity.specs.Clarity.{lawful_single, lawful_of, plainly, setting_of, clarity_of}
 use Rattle.nonneg.proofs.Nonneg.{le_trans'}

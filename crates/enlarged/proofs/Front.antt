@@ -22,7 +22,8 @@ use Rattle.tag.specs.Tag.{tags}
 use Rattle.grid.specs.Grid.{of_metric, of_weights, of_junctions, of_tags}
 use Rattle.block.specs.Block.{picture_junctions, picture_tags}
 use Rattle.block.specs.Drawn.{third}
-use Rattle.block.specs.Locality.{stages, cross}
+use Rattle.block.specs.Locality.{stages}
+use Rattle.block.proofs.Cross.{cross}
 use Rattle.enlarged.specs.Whole.{all_of, rows_of, scale_of, singles_of, bytes_of}
 
 -- the records of all pixels, of fields that agree on the picture

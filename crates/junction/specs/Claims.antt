@@ -1,6 +1,6 @@
 -- What section 4 says of the junction numbers of a pixel: each is below 16, with horizontal and vertical never together and neither where
 -- the edges are equal (`numbers`); `decode_flags` finds the number's bits in the source's single (`recovered`); and one pixel by
--- computation (`lone`). Definitions only; `Laws.antt` proves it.
+-- computation (`lone`). Definitions only; `proofs/Laws.antt` proves it.
 use Rattle.std.specs.Prelude.{◌≡◌, false, ℕ, ◌+◌, ◌/◌, ◌%◌, ◌<◌, ◌≤◌, pos, negsuc, T, Float}
 use Rattle.std.specs.Int.Bits.{bit_and}
 use Rattle.std.specs.Float.{fin}

@@ -1,6 +1,6 @@
 // Section 4: the junctions of a pixel, `arbitrate_junctions` of scalefx.rs, with flags where the source
 // has the singles 0.0 and 1.0. `specs/Junction.antt` is the source, `specs/Flags.antt` what the code
-// computes, and `specs/Same.antt` shows that the two give the same numbers.
+// computes, and `proofs/Same.antt` shows that the two give the same numbers.
 #![tactic(auto)]
 
 ghost use Rattle.std.specs.Prelude.{◌≡◌, ◌≤◌};

@@ -53,10 +53,10 @@ module _ (S : Screen) (L : Lawful S) (w h column row : ℕ) where
 -- from wherever a list ended
 module _ (S : Screen) (L : Lawful S) {w h stale : ℕ} {c : Clarity} {b e : Buffers} {cs : List Call} {rs : List Answer} {last : Header}
     (t : Trace S w h c b stale cs rs last e) where
-  kept_through : {more-calls : List Call} {rs' : List Answer} {last' : Header} {e' : Buffers} → LocksNothing more-calls
-      → Ran S last e more-calls rs' last' e' → (column row : ℕ) → locked last.lock column row ≡ true
+  kept_through : {more_calls : List Call} {rs' : List Answer} {last' : Header} {e' : Buffers} → LocksNothing more_calls
+      → Ran S last e more_calls rs' last' e' → (column row : ℕ) → locked last.lock column row ≡ true
       → get_or e'.picture (row * w + column) 0 ≡ get_or e.picture (row * w + column) 0
-  kept_through {more-calls} n r column row k =
+  kept_through {more_calls} n r column row k =
       let m = met S L w h c b t in
       let g = good_met S L w h c b t in
       let now = ended S L w h c b t in
@@ -64,10 +64,10 @@ module _ (S : Screen) (L : Lawful S) {w h stale : ℕ} {c : Clarity} {b e : Buff
       let e : locked m.lock column row ≡ true = ap (λ (header : Header). locked header.lock column row) (sym now.0) ∙ k in
       let i = locked_inside m.lock w h column row g.lock_inside e in
       let at : row * w + column < w * h = block_lt i.0 i.1 in
-      let end : State = after S w h more-calls m in
+      let end : State = after S w h more_calls m in
       ap (λ (d : Buffers). get_or d.picture (row * w + column) 0) then.1
       ∙ get_or-append end.picture (drop (w * h) b.picture) 0 (row * w + column)
-      (omega (arith, at, (good_after S L w h more-calls m g).picture_length))
+      (omega (arith, at, (good_after S L w h more_calls m g).picture_length))
       ∙ locked_kept S L w h column row n m g e
       ∙ sym (get_or-append m.picture (drop (w * h) b.picture) 0 (row * w + column) (omega (arith, at, g.picture_length)))
       ∙ ap (λ (d : Buffers). get_or d.picture (row * w + column) 0) (sym now.1)

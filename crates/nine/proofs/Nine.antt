@@ -10,9 +10,9 @@ use Rattle.clarity.specs.declared.Clarity.{Clarity}
 use Rattle.clarity.specs.Clarity.{plainly}
 use Rattle.block.specs.Block.{block_of}
 use Rattle.block.specs.Claims.{PixelOf}
-use Rattle.block.specs.Theorem.{block_laws}
-use Rattle.block.specs.Locality.{cross}
-use Rattle.block.specs.Standard.{block_settings}
+use Rattle.block.proofs.Theorem.{block_laws}
+use Rattle.block.proofs.Cross.{cross}
+use Rattle.block.proofs.Standard.{block_settings}
 use Rattle.machine.specs.Lists.{table}
 use Rattle.machine.specs.Screen.{Lawful}
 use Rattle.machine.proofs.Lists.{table_same, get_or_table}

@@ -10,7 +10,7 @@ use Rattle.picture.specs.Span.{Span}
 use Rattle.clarity.specs.declared.Clarity.{Clarity}
 use Rattle.grid.specs.declared.Grid.{Grid}
 use Rattle.block.specs.Block.{block_of}
-use Rattle.block.specs.Locality.{in_window}
+use Rattle.block.proofs.Locality.{in_window}
 use Rattle.block.specs.Ring.{ring_of}
 use Rattle.block.specs.Store.{put_rect}
 use Rattle.block.specs.Placed.{rect_at}

@@ -94,8 +94,8 @@ module _ (clarity : Clarity) (w h : ℕ) (f : ℕ → ℕ → ℕ) (g v q t : Gr
   abbrev n : ℕ → ℕ → Weights
   n = weights clarity w h (metrics w h f)
 
-  s₁-long : length s₁ ≡ length s₀
-  s₁-long =
+  s₁_long : length s₁ ≡ length s₀
+  s₁_long =
       ap length e₁ ∙ length_put 0 (rect_of of_metric g m) s₀
       (omega (arith, rooms.metrics_room, rooms.weights_room, rect_length nan of_metric (λ r. refl) g m))
 
@@ -109,10 +109,10 @@ module _ (clarity : Clarity) (w h : ℕ) (f : ℕ → ℕ → ℕ) (g v q t : Gr
       (rect_same of_weights v _ _ (weights_right w h m (take cut s₁) held_metrics clarity rooms.to_weights))
 
   front : take cut s₂ ≡ take cut s₁
-  front = ap (take cut) weights_now ∙ take_put cut cut (rect_of of_weights v n) s₁ (omega arith) (omega (arith, s₁-long, rooms.weights_room))
+  front = ap (take cut) weights_now ∙ take_put cut cut (rect_of of_weights v n) s₁ (omega arith) (omega (arith, s₁_long, rooms.weights_room))
 
   held_weights : Holds nan of_weights (λ r. refl) v n (drop cut s₂)
-  held_weights = rw weights_now (holds_drop nan of_weights (λ r. refl) v n cut s₁ (omega (arith, s₁-long, rooms.weights_room)))
+  held_weights = rw weights_now (holds_drop nan of_weights (λ r. refl) v n cut s₁ (omega (arith, s₁_long, rooms.weights_room)))
 
   -- and so are the junctions
   junctions_now : b₁ ≡ put 0 (rect_of of_junctions q (picture_junctions clarity w h f)) b₀

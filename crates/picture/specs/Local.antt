@@ -64,20 +64,20 @@ abbrev pub Carries : ℕ → ℕ → (ℕ → ℕ) → ℕ → ℕ → ℕ → T
 Carries n m to b l r = (p : ℕ) (d : ℤ) → p < n → b + back d ≤ p + l → p + ahead d ≤ b + r → to (moved n p d) ≡ moved m (to p) d
 
 -- the field f of a picture of w by h, and g of one of cols by rows, agree at most l left, r right, u above and d below (bx, by)
-pub record Match {A : Type 0} (w h cols rows : ℕ) (to-x to-y : ℕ → ℕ) (bx by l r u d : ℕ) (f g : ℕ → ℕ → A) : Type 0 where
-  pub along : Carries w cols to-x bx l r
-  pub down : Carries h rows to-y by u d
-  pub same : (x y : ℕ) → In w h bx by l r u d x y → f x y ≡ g (to-x x) (to-y y)
+pub record Match {A : Type 0} (w h cols rows : ℕ) (to_x to_y : ℕ → ℕ) (bx by l r u d : ℕ) (f g : ℕ → ℕ → A) : Type 0 where
+  pub along : Carries w cols to_x bx l r
+  pub down : Carries h rows to_y by u d
+  pub same : (x y : ℕ) → In w h bx by l r u d x y → f x y ≡ g (to_x x) (to_y y)
 
 -- fields of one picture: each place stands for itself
 pub agreed : {A : Type 0} {w h bx by l r u d : ℕ} {f g : ℕ → ℕ → A} → Agree w h bx by l r u d f g
     → Match w h w h (λ x. x) (λ y. y) bx by l r u d f g
 agreed e = record { along = λ p d i j k. refl; down = λ p d i j k. refl; same = e }
 
-module _ {A : Type 0} {w h cols rows : ℕ} {to-x to-y : ℕ → ℕ} {bx by : ℕ} {f g : ℕ → ℕ → A} where
+module _ {A : Type 0} {w h cols rows : ℕ} {to_x to_y : ℕ → ℕ} {bx by : ℕ} {f g : ℕ → ℕ → A} where
   -- fields that agree on a rectangle agree on a narrower one
-  pub narrower : {l r u d l' r' u' d' : ℕ} → l ≤ l' → r ≤ r' → u ≤ u' → d ≤ d' → Match w h cols rows to-x to-y bx by l' r' u' d' f g
-      → Match w h cols rows to-x to-y bx by l r u d f g
+  pub narrower : {l r u d l' r' u' d' : ℕ} → l ≤ l' → r ≤ r' → u ≤ u' → d ≤ d' → Match w h cols rows to_x to_y bx by l' r' u' d' f g
+      → Match w h cols rows to_x to_y bx by l r u d f g
   narrower hl hr hu hd e = record {
     along = λ p q i j k. e.along p q i (omega arith) (omega arith);
     down = λ p q i j k. e.down p q i (omega arith) (omega arith);
@@ -86,9 +86,9 @@ module _ {A : Type 0} {w h cols rows : ℕ} {to-x to-y : ℕ → ℕ} {bx by : �
   }
 
   -- fields that agree on a rectangle with a margin agree at an offset within the margin, from each place of the rectangle
-  pub near_agrees : {l r u d : ℕ} (l' r' u' d' : ℕ) → Match w h cols rows to-x to-y bx by (l + l') (r + r') (u + u') (d + d') f g
+  pub near_agrees : {l r u d : ℕ} (l' r' u' d' : ℕ) → Match w h cols rows to_x to_y bx by (l + l') (r + r') (u + u') (d + d') f g
       → (x y : ℕ) → In w h bx by l r u d x y → (dx dy : ℤ) → T (reaches l' r' u' d' dx dy)
-      → near w h f x y dx dy ≡ near cols rows g (to-x x) (to-y y) dx dy
+      → near w h f x y dx dy ≡ near cols rows g (to_x x) (to_y y) dx dy
   near_agrees {l} {r} {u} {d} l' r' u' d' e x y i dx dy t =
       let tx = both_l (leb (back dx) l' && leb (ahead dx) r') (leb (back dy) u' && leb (ahead dy) d') t in
       let ty = both_r (leb (back dx) l' && leb (ahead dx) r') (leb (back dy) u' && leb (ahead dy) d') t in
@@ -104,11 +104,11 @@ module _ {A : Type 0} {w h cols rows : ℕ} {to-x to-y : ℕ → ℕ} {bx by : �
 
   -- so records F and G of what lies within the margin agree on the rectangle
   pub stage : {B : Type 0} {F G : ℕ → ℕ → B} {l r u d : ℕ} (l' r' u' d' : ℕ)
-      → Match w h cols rows to-x to-y bx by (l + l') (r + r') (u + u') (d + d') f g
+      → Match w h cols rows to_x to_y bx by (l + l') (r + r') (u + u') (d + d') f g
       → ((x y : ℕ) → In w h bx by l r u d x y
-      → ((dx dy : ℤ) → T (reaches l' r' u' d' dx dy) → near w h f x y dx dy ≡ near cols rows g (to-x x) (to-y y) dx dy)
-      → F x y ≡ G (to-x x) (to-y y))
-      → Match w h cols rows to-x to-y bx by l r u d F G
+      → ((dx dy : ℤ) → T (reaches l' r' u' d' dx dy) → near w h f x y dx dy ≡ near cols rows g (to_x x) (to_y y) dx dy)
+      → F x y ≡ G (to_x x) (to_y y))
+      → Match w h cols rows to_x to_y bx by l r u d F G
   stage l' r' u' d' e make = record {
     along = λ p q i j k. e.along p q i (omega arith) (omega arith);
     down = λ p q i j k. e.down p q i (omega arith) (omega arith);

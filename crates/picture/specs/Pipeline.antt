@@ -70,16 +70,16 @@ module _ {P M W J G : Type 0} (s : Stages P M W J G) (w h : ℕ) where
 
 -- ---- what each stage depends on: fields of a picture of w by h and of one of cols by rows that agree around (bx, by)
 
-module _ {P M W J G : Type 0} (s : Stages P M W J G) {w h cols rows : ℕ} {to-x to-y : ℕ → ℕ} {bx by : ℕ} where
-  pub metrics_agree : {l r u d : ℕ} {f g : ℕ → ℕ → P} → Match w h cols rows to-x to-y bx by (l + 1) (r + 1) (u + 1) (d + 0) f g
-      → Match w h cols rows to-x to-y bx by l r u d (metrics s w h f) (metrics s cols rows g)
+module _ {P M W J G : Type 0} (s : Stages P M W J G) {w h cols rows : ℕ} {to_x to_y : ℕ → ℕ} {bx by : ℕ} where
+  pub metrics_agree : {l r u d : ℕ} {f g : ℕ → ℕ → P} → Match w h cols rows to_x to_y bx by (l + 1) (r + 1) (u + 1) (d + 0) f g
+      → Match w h cols rows to_x to_y bx by l r u d (metrics s w h f) (metrics s cols rows g)
   unfolding metrics
   metrics_agree e =
       stage 1 1 1 0 e (λ x y i n.
       cc (n (pos 0) (pos 0) tt, n (negsuc 0) (negsuc 0) tt, n (pos 0) (negsuc 0) tt, n (pos 1) (negsuc 0) tt, n (pos 1) (pos 0) tt))
 
-  pub weights_agree : {l r u d : ℕ} {f g : ℕ → ℕ → M} → Match w h cols rows to-x to-y bx by (l + 1) (r + 1) (u + 1) (d + 1) f g
-      → Match w h cols rows to-x to-y bx by l r u d (weights s w h f) (weights s cols rows g)
+  pub weights_agree : {l r u d : ℕ} {f g : ℕ → ℕ → M} → Match w h cols rows to_x to_y bx by (l + 1) (r + 1) (u + 1) (d + 1) f g
+      → Match w h cols rows to_x to_y bx by l r u d (weights s w h f) (weights s cols rows g)
   unfolding weights
   weights_agree e =
       stage 1 1 1 1 e (λ x y i n.
@@ -95,9 +95,9 @@ module _ {P M W J G : Type 0} (s : Stages P M W J G) {w h cols rows : ℕ} {to-x
       ))
 
   pub junctions_agree : {l r u d : ℕ} {f g : ℕ → ℕ → M} {f' g' : ℕ → ℕ → W}
-      → Match w h cols rows to-x to-y bx by (l + 1) (r + 1) (u + 1) (d + 1) f g
-      → Match w h cols rows to-x to-y bx by (l + 1) (r + 1) (u + 1) (d + 1) f' g'
-      → Match w h cols rows to-x to-y bx by l r u d (junctions s w h f f') (junctions s cols rows g g')
+      → Match w h cols rows to_x to_y bx by (l + 1) (r + 1) (u + 1) (d + 1) f g
+      → Match w h cols rows to_x to_y bx by (l + 1) (r + 1) (u + 1) (d + 1) f' g'
+      → Match w h cols rows to_x to_y bx by l r u d (junctions s w h f f') (junctions s cols rows g g')
   unfolding junctions
   junctions_agree e e' =
       stage 1 1 1 1 e (λ x y i n.
@@ -123,18 +123,18 @@ module _ {P M W J G : Type 0} (s : Stages P M W J G) {w h cols rows : ℕ} {to-x
       ))
 
   -- a junction depends on the pixels at most three away, and two below
-  pub of_picture : {l r u d : ℕ} {f g : ℕ → ℕ → P} → Match w h cols rows to-x to-y bx by (l + 3) (r + 3) (u + 3) (d + 2) f g
-      → Match w h cols rows to-x to-y bx by l r u d (all_junctions s w h f) (all_junctions s cols rows g)
+  pub of_picture : {l r u d : ℕ} {f g : ℕ → ℕ → P} → Match w h cols rows to_x to_y bx by (l + 3) (r + 3) (u + 3) (d + 2) f g
+      → Match w h cols rows to_x to_y bx by l r u d (all_junctions s w h f) (all_junctions s cols rows g)
   of_picture {l} {r} {u} {d} {f} {g} e =
-      let m : Match w h cols rows to-x to-y bx by (l + 1 + 1) (r + 1 + 1) (u + 1 + 1) (d + 1 + 1) (metrics s w h f) (metrics s cols rows g) =
+      let m : Match w h cols rows to_x to_y bx by (l + 1 + 1) (r + 1 + 1) (u + 1 + 1) (d + 1 + 1) (metrics s w h f) (metrics s cols rows g) =
       metrics_agree (narrower (omega arith) (omega arith) (omega arith) (omega arith) e) in
       junctions_agree (narrower (omega arith) (omega arith) (omega arith) (omega arith) m) (weights_agree m)
 
   module _ (hx : bx < w) (hy : by < h) where
     -- a tag depends on the junctions of its row, three to each side, and of its column
-    pub tags_agree : {f g : ℕ → ℕ → J} → Match w h cols rows to-x to-y bx by (0 + 3) (0 + 3) 0 0 f g
-        → Match w h cols rows to-x to-y bx by 0 0 (0 + 3) (0 + 3) f g
-        → tags s w h f bx by ≡ tags s cols rows g (to-x bx) (to-y by)
+    pub tags_agree : {f g : ℕ → ℕ → J} → Match w h cols rows to_x to_y bx by (0 + 3) (0 + 3) 0 0 f g
+        → Match w h cols rows to_x to_y bx by 0 0 (0 + 3) (0 + 3) f g
+        → tags s w h f bx by ≡ tags s cols rows g (to_x bx) (to_y by)
     unfolding tags
     tags_agree e e' =
         let n = near_agrees 3 3 0 0 (narrower (omega arith) (omega arith) (omega arith) (omega arith) e) bx by (here hx hy) in
@@ -157,12 +157,12 @@ module _ {P M W J G : Type 0} (s : Stages P M W J G) {w h cols rows : ℕ} {to-x
 
     -- a block depends on a cross: three rows up and two down along six columns to each side, and six up and five down along three
     pub cross : ((t : G) (k : ℕ) → T (reaches 2 2 2 2 (s.off_x t k) (s.off_y t k))) → {f g : ℕ → ℕ → P}
-        → Match w h cols rows to-x to-y bx by 6 6 3 2 f g → Match w h cols rows to-x to-y bx by 3 3 6 5 f g
-        → (k : ℕ) → block_word s w h f bx by k ≡ block_word s cols rows g (to-x bx) (to-y by) k
+        → Match w h cols rows to_x to_y bx by 6 6 3 2 f g → Match w h cols rows to_x to_y bx by 3 3 6 5 f g
+        → (k : ℕ) → block_word s w h f bx by k ≡ block_word s cols rows g (to_x bx) (to_y by) k
     unfolding block_word
     cross reach {f} {g} e e' k =
-        let tags_same : all_tags s w h f bx by ≡ all_tags s cols rows g (to-x bx) (to-y by) = tags_agree (of_picture e) (of_picture e') in
-        let t = all_tags s cols rows g (to-x bx) (to-y by) in
+        let tags_same : all_tags s w h f bx by ≡ all_tags s cols rows g (to_x bx) (to_y by) = tags_agree (of_picture e) (of_picture e') in
+        let t = all_tags s cols rows g (to_x bx) (to_y by) in
         ap (λ (q : G). near w h f bx by (s.off_x q k) (s.off_y q k)) tags_same
         ∙ near_agrees 2 2 2 2 (narrower (omega arith) (omega arith) (omega arith) (omega arith) e) bx by (here hx hy) (s.off_x t k) (s.off_y t k)
         (reach t k)

@@ -46,7 +46,7 @@ fn word_near(picture: &[u32], w: u32, h: u32, x: u32, y: u32, dx: i32, dy: i32) 
     0
 }
 
-// The same through the reader. Its parameters are plain, so that callers need no walk.
+// The same through the reader. Its parameters are plain, so that callers build no reader.
 pub fn get(picture: &[u32], w: u32, h: u32, x: u32, y: u32, dx: i32, dy: i32) -> u32
     ensures { result ≡ near w h (words w picture.now) x y dx dy }
 {

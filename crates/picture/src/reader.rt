@@ -1,4 +1,4 @@
-// The reader: a picture's words with its two sizes, and thin functions over it. `word_near` does the work, and is covered.
+// The reader: a picture's words with its two sizes, and thin functions over it, of which `word_near` does the work.
 ghost use Rattle.std.specs.Prelude.{◌≡◌};
 ghost use Rattle.picture.specs.Picture.{near, words};
 

@@ -12,7 +12,7 @@ use Rattle.integer_root.specs.Near.{Near}
 use Rattle.integer_root.proofs.Certificate.{square_next}
 use Rattle.single.specs.Root.{single, root_bits}
 use Rattle.single.specs.Parts.{PartsOf}
-use Rattle.single.specs.Laws.{lt_or_ge, single_low, single_high, single_at, single_mono, middle², root², reaches_i, short_i, Ends, root_bits_is, sq_scale, sq_next}
+use Rattle.single.proofs.Laws.{lt_or_ge, single_low, single_high, single_at, single_mono, middle², root², reaches_i, short_i, Ends, root_bits_is, sq_scale, sq_next}
 
 -- ---- where n units are scaled to w * 4 ^ j, with w of 47 or 48 digits, r is the whole number nearest w's root: the root's pattern has the digits r and the field j + 1
 module _ (n w j r : ℕ) (scaled : n * 2 ^ 149 ≡ w * (2 ^ j * 2 ^ j)) (big : 2 ^ 46 ≤ w) (near : Near w r) where

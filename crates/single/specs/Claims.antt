@@ -1,4 +1,4 @@
--- What section 2 says of the root. Definitions only; `RootTheorems.antt` proves it.
+-- What section 2 says of the root. Definitions only; `proofs/RootTheorems.antt` proves it.
 use Rattle.std.specs.Prelude.{◌≡◌, ℕ, ◌+◌, ◌*◌, ◌^◌, ◌<◌, false, T, pos, negsuc, Float}
 use Rattle.std.specs.Float.{fin, binary32}
 use Rattle.std.specs.Float.Ieee.{to_bits, fits, le}

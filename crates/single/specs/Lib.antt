@@ -1,9 +1,6 @@
 pub mod Single
 pub mod Root
 pub mod Parts
-pub mod Laws
-pub mod Floats
 pub mod Claims
-pub mod RootTheorems
 pub mod Order
 pub mod Zero

@@ -12,7 +12,7 @@ use Rattle.lanes.proofs.Laws.{across_lanes, down_lanes, opposite_lanes, beside_l
 use Rattle.lanes.proofs.Laws.{and_flags, or_flags, not_flags, choose_flags}
 use Rattle.tag.specs.declared.Neighbors.{Neighbors}
 use Rattle.tag.specs.Tag.{when◌then◌else◌, decode_flags, corner_tag, mid_tag, trace_flags, trace_edges}
-use Rattle.tag.specs.Laws.{corner_le, mid_le, packed}
+use Rattle.tag.proofs.Ranges.{corner_le, mid_le, packed}
 use Rattle.tag.specs.Words.{around_of, level2_of, level3_of, level4_near, level4_of, level5_of, level6_of}
 use Rattle.tag.specs.Words.{far_corners, far_mids, far_of, corners_of, both_of, mids_of, tags_word, split_of}
 use Rattle.tag.proofs.Flags.{actives, horizontals, verticals, orientations}

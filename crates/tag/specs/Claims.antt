@@ -1,5 +1,6 @@
 -- What section 5 says of tag numbers, for all flags around a pixel: c and m are 0 to 8, the number gives both back, and
--- `unpack_corner_tag` and `unpack_mid_tag` of the source find them in its single (c + 9m) / 80. Definitions only; `Unpack.antt` proves it.
+-- `unpack_corner_tag` and `unpack_mid_tag` of the source find them in its single (c + 9m) / 80. Definitions only;
+-- `proofs/Unpack.antt` proves it.
 use Rattle.std.specs.Prelude.{◌≡◌, false, ℕ, ◌/◌, ◌%◌, ◌≤◌, pos, negsuc, Float}
 use Rattle.std.specs.Float.{fin, binary32}
 use Rattle.std.specs.Float.Ieee.{add, mul, div, to_unsigned}

@@ -2,4 +2,3 @@ pub mod Tag
 pub mod Words
 pub mod Claims
 pub mod Laws
-pub mod Unpack

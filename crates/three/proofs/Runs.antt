@@ -8,7 +8,7 @@ use lib.ListN.{length, take}
 use Rattle.picture.specs.Picture.{words}
 use Rattle.clarity.specs.declared.Clarity.{Clarity}
 use Rattle.block.specs.Block.{block_of}
-use Rattle.block.specs.Locality.{block_length}
+use Rattle.block.proofs.Cross.{block_length}
 use Rattle.block.specs.Drawn as store
 use Rattle.block.specs.Store.{put_row}
 use Rattle.block.specs.StoreLaws.{row_same}

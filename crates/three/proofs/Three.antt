@@ -8,8 +8,8 @@ use lib.ListN.{take}
 use Rattle.picture.specs.Picture.{words}
 use Rattle.picture.specs.Local.{In}
 use Rattle.clarity.specs.declared.Clarity.{Clarity}
-use Rattle.block.specs.Locality.{cross, block_length}
-use Rattle.block.specs.Standard.{block_settings}
+use Rattle.block.proofs.Cross.{cross, block_length}
+use Rattle.block.proofs.Standard.{block_settings}
 use Rattle.machine.specs.Screen.{Lawful}
 use Rattle.marks.specs.Marks.{between}
 use Rattle.three.specs.Three.{cross3, draw3, screen3}

@@ -16,8 +16,8 @@ use lib.Ieee.Scale.{round_same}
 use lib.Ieee.Positive.{num, den, den_pos, positive, value→cross}
 use Rattle.single.specs.Single.{f0, f1, ◌⊕◌, ◌⊖◌, ◌⊗◌, ◌⊘◌, max_of}
 use Rattle.single.specs.Root.{single, rooted}
-use Rattle.single.specs.Laws.{lt_or_ge, single_low, single_high, single_mono}
-use Rattle.single.specs.Floats.{size_is, rooted_bits}
+use Rattle.single.proofs.Laws.{lt_or_ge, single_low, single_high, single_mono}
+use Rattle.single.proofs.Floats.{size_is, rooted_bits}
 use Rattle.clarity.specs.Clarity.{lawful_single}
 use Rattle.clarity.proofs.Thresholds.{lawful_positive, positive_rooted}
 use Rattle.nonneg.proofs.Nonneg.{In, le→, →le, le_refl', le_trans', le_total', zero_le', round_rooted, round_zero, num_pos, add_is, sub_is, div_is}

@@ -10,7 +10,7 @@ use Rattle.picture.specs.Fill.{put, get_or_put, within}
 use Rattle.clarity.specs.declared.Clarity.{Clarity}
 use Rattle.block.specs.Block.{block_of}
 use Rattle.block.specs.Claims.{PixelOf}
-use Rattle.block.specs.Theorem.{block_laws}
+use Rattle.block.proofs.Theorem.{block_laws}
 use Rattle.enlarged.specs.Whole.{scale_of}
 use Rattle.enlarged.specs.Laws.{scale_block, scale_length}
 use Rattle.whole.proofs.Sizes.{nine_words}

@@ -7,7 +7,7 @@ use lib.Dec.{T, eqb, ltb}
 use lib.Ieee.{binary32, of_bits, nan_bits}
 use lib.Ieee.Bits.{nan_bits_is}
 use borrow.Author.Tests.{ltb-false}
-use Rattle.single.specs.Floats.{no_nan, rooted_of_bits}
+use Rattle.single.proofs.Floats.{no_nan, rooted_of_bits}
 use Rattle.clarity.proofs.clarity_of.Goals as goal
 
 number : (b : ℕ) → b ≤ 0x3f80_0000 → T (not (nan_bits binary32 b))

@@ -2,7 +2,7 @@
 use mathlib.Core.Path.{sym, ap, ◌∙◌}
 use Rattle.junction.specs.Flags.{numbers_of}
 use Rattle.junction.specs.Idle.{weightless_idle}
-use Rattle.junction.specs.Same.{same}
+use Rattle.junction.proofs.Same.{same}
 use Rattle.junction.proofs.arbitrate_junctions.Goals as goal
 
 pub returns-then-weightless : goal.returns-then-weightless

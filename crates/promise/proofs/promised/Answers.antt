@@ -1,12 +1,12 @@
 -- `promise::promised` meets its contract: every clause of the promise is a theorem. Assumes nothing.
 use Rattle.colour.proofs.Theorem.{nearness_laws}
-use Rattle.single.specs.RootTheorems.{root_laws}
+use Rattle.single.proofs.RootTheorems.{root_laws}
 use Rattle.clarity.proofs.Claims.{settings}
 use Rattle.metric.proofs.Laws.{distance_laws}
 use Rattle.weight.proofs.Laws.{weight_laws}
-use Rattle.junction.specs.Laws.{junction_laws}
-use Rattle.tag.specs.Unpack.{tag_laws}
-use Rattle.block.specs.Theorem.{block_laws, table_holds}
+use Rattle.junction.proofs.Laws.{junction_laws}
+use Rattle.tag.proofs.Unpack.{tag_laws}
+use Rattle.block.proofs.Theorem.{block_laws, table_holds}
 use Rattle.sizes.specs.Examples.{whole_orders}
 use Rattle.whole.proofs.Theorem.{whole_laws}
 use Rattle.whole_palette.proofs.Theorem.{palette_laws}

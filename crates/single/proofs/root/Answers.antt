@@ -7,7 +7,7 @@ use lib.Ieee.{Float, nan, binary32, of_bits, fits, eq, ne}
 use lib.Ieee.Compare.{differs_from_itself}
 use lib.Ieee.Bits.{is_true, is_false}
 use Rattle.single.specs.Root.{rooted, root_answer}
-use Rattle.single.specs.Floats.{rooted_bits, bits_rooted}
+use Rattle.single.proofs.Floats.{rooted_bits, bits_rooted}
 use Rattle.single.proofs.root.Goals as goal
 
 no_number : (x : Float) → eq x x ≡ false → x ≡ nan

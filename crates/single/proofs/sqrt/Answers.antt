@@ -1,10 +1,10 @@
--- `single::sqrt` meets its contract: `specs/Floats.antt` has each fact. Assumes nothing.
+-- `single::sqrt` meets its contract: `proofs/Floats.antt` has each fact. Assumes nothing.
 use mathlib.Core.Path.{sym, ap, ◌∙◌, subst}
 use Prim.Native.Nat.{ℕ}
 use mathlib.Core.Bool.{not}
 use lib.Dec.{T}
 use lib.Ieee.{binary32, fits, of_bits, to_bits, nan_bits}
-use Rattle.single.specs.Floats.{no_nan, rooted_bits, root_no_nan, sqrt_of_is}
+use Rattle.single.proofs.Floats.{no_nan, rooted_bits, root_no_nan, sqrt_of_is}
 use Rattle.single.proofs.sqrt.Goals as goal
 
 -- what owning an `f32` tells: the format holds it

@@ -1,6 +1,7 @@
 -- `weight::weight_at` meets its contract. Assumes nothing.
 use mathlib.Core.Path.{◌≡◌}
 use mathlib.Core.Bool.{cond}
+use borrow.Author.Rules.{rules}
 use lib.Ieee.{Float, of_bits, neg, lt}
 use Rattle.single.specs.Single.{f0, f1, ◌⊕◌, ◌⊖◌, ◌⊗◌, ◌⊘◌, max_of, min_of, clamp_of}
 use Rattle.weight.specs.Weight.{weight_at}
@@ -13,4 +14,4 @@ joined t e p0 p1 s0 s1 i j k l m = rw (m, l, k, j, i)
 
 pub returns : goal.returns
 unfolding of_bits
-returns c = joined _ _ _ _ _ _ c.max.ensures c.min.ensures c.min-2.ensures c.stronger_axis.ensures c.clamp-direction.ensures
+returns c = search (rules, joined)

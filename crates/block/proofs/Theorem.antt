@@ -8,9 +8,10 @@ use Rattle.tag.specs.declared.Tags.{Tags}
 use Rattle.tag.specs.Tag.{offset_of}
 use Rattle.block.specs.Block.{corner, mid, tag_word, picture_tags, block_from, block_of}
 use Rattle.block.specs.Claims.{PixelOf, BlockLaws, Tabled}
-use Rattle.block.specs.Locality.{cross, in_window, block_length, middle_word}
-use Rattle.block.specs.Standard.{block_settings}
-use Rattle.block.specs.Table.{thirteen, tabled}
+use Rattle.block.proofs.Cross.{cross, block_length, middle_word}
+use Rattle.block.proofs.Locality.{in_window}
+use Rattle.block.proofs.Standard.{block_settings}
+use Rattle.block.proofs.Tabled.{thirteen, tabled}
 
 -- a tag leads to a pixel of the picture, by clamped moves
 module _ (w h : ℕ) (f : ℕ → ℕ → ℕ) (x y : ℕ) (hx : x < w) (hy : y < h) where

@@ -11,8 +11,8 @@ use Rattle.std.specs.Float.Ieee.Exact.{HasValue, odd_sign}
 use Rattle.std.specs.Float.Ieee.Order.{transfer, le_of_values}
 use Rattle.single.specs.Single.{f0, f3}
 use Rattle.single.specs.Root.{single, root_bits, sqrt_of, rooted}
-use Rattle.single.specs.Laws.{lt_or_ge, single_low, single_high, single_mono}
-use Rattle.single.specs.Laws.{single_back, root_bits_mono, nearest_below, nearest_above}
+use Rattle.single.proofs.Laws.{lt_or_ge, single_low, single_high, single_mono}
+use Rattle.single.proofs.Laws.{single_back, root_bits_mono, nearest_below, nearest_above}
 
 -- ---- the patterns below 0x7f80_0000 are those of the finite values without a sign bit
 of_bits_is : (b : ℕ) → of_bits binary32 b ≡ of_fields binary32 (leb (2 ^ 31) b) (b % 2 ^ 31 / 2 ^ 23) (b % 2 ^ 23)
@@ -191,9 +191,9 @@ unfolding sqrt_of
 sqrt_nine = refl
 
 -- of 2 ^ -16, 2 ^ -8
-pub sqrt-2⁻¹⁶ : sqrt_of (fin false 1 (negsuc 15)) ≡ fin false 1 (negsuc 7)
+pub sqrt_2⁻¹⁶ : sqrt_of (fin false 1 (negsuc 15)) ≡ fin false 1 (negsuc 7)
 unfolding sqrt_of
-sqrt-2⁻¹⁶ = refl
+sqrt_2⁻¹⁶ = refl
 
 -- only +0 has the root +0: the least other single has a root above it
 least : root_bits 1 ≡ 0x1a35_04f3

@@ -1,7 +1,7 @@
 -- What `Claims.antt` says of the root; `Laws.antt` and `Floats.antt` have the proofs. Assumes nothing.
 use Rattle.single.specs.Claims.{RootLaws}
-use Rattle.single.specs.Laws as Laws
-use Rattle.single.specs.Floats.{size_is, sqrt_fits, sqrt_rooted, nearest, sqrt_mono, sqrt_zero, sqrt_zero_only, sqrt_nine, sqrt-2⁻¹⁶}
+use Rattle.single.proofs.Laws as Laws
+use Rattle.single.proofs.Floats.{size_is, sqrt_fits, sqrt_rooted, nearest, sqrt_mono, sqrt_zero, sqrt_zero_only, sqrt_nine, sqrt_2⁻¹⁶}
 
 pub root_laws : RootLaws
 root_laws = record {
@@ -15,7 +15,7 @@ root_laws = record {
     zero = sqrt_zero;
     zero_only = sqrt_zero_only;
     nine = sqrt_nine;
-    2⁻¹⁶ = sqrt-2⁻¹⁶;
+    2⁻¹⁶ = sqrt_2⁻¹⁶;
   };
   no_tie = Laws.no_tie;
 }

@@ -4,7 +4,7 @@ use Rattle.std.proofs.Common.{sym, subst, ⊎_elim, eq-or-lt_of_le, arith, eqb�
 use Rattle.std.specs.Float.Ieee.{add, mul, div, to_unsigned}
 use Rattle.std.specs.Float.Ieee.Fits.{and_l, and_r}
 use Rattle.tag.specs.Claims.{packed_tag, unpack_corner_tag, unpack_mid_tag, TagLaws}
-use Rattle.tag.specs.Laws.{traced}
+use Rattle.tag.proofs.Ranges.{traced}
 
 -- a test of each number below n
 every : (ℕ → Bool) → ℕ → Bool

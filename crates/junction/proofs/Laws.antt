@@ -11,8 +11,8 @@ use Rattle.junction.specs.Junction.{suppress, active_of, packed, packed_of, arbi
 use Rattle.junction.specs.Claims.{Number, decoded, Recovered, JunctionLaws}
 use Rattle.active_corners.specs.Active.{above, active_corners}
 use Rattle.junction.specs.Flags.{bit, pair, condition_of, number_of, numbers_of}
-use Rattle.junction.specs.Same.{every, flagged, source, horizontal, vertical, orientation}
-use Rattle.junction.specs.Same.{active_0, active_1, active_2, active_3, packed_same, same}
+use Rattle.junction.proofs.Same.{every, flagged, source, horizontal, vertical, orientation}
+use Rattle.junction.proofs.Same.{active_0, active_1, active_2, active_3, packed_same, same}
 use Rattle.single.specs.Order.{lt_asym, level_lt}
 
 -- the digits of a number
