@@ -2,13 +2,14 @@
 use native.Mathlib.Omega.{arith}
 use mathlib.Core.Path.{◌≡◌, ◌∙◌, ap}
 use mathlib.Core.List.{List}
-use Prim.Native.Nat.{ℕ, ◌+◌}
+use Prim.Native.Nat.{ℕ, ◌+◌, ◌*◌}
 use Rattle.picture.specs.Picture.{words}
 use Rattle.grid.specs.Grid.{tags_at}
 use Rattle.block.specs.Block.{tag_word, block_from}
+use borrow.Author.Rules.{rules}
 use Rattle.block.specs.Drawn.{put_block, Plain}
 use Rattle.tag_words.proofs.Rows.{plain_drawn}
-use Rattle.block.specs.StoreLaws.{rowed_none, rowed_more}
+use Rattle.block.specs.StoreLaws.{Rowed, rowed_none, rowed_more}
 use Rattle.stored.proofs.Copies.{stands}
 use Rattle.stored.proofs.put_tagged.Invariants.{blocks}
 use Rattle.stored.proofs.put_tagged.Goals as goal
@@ -49,17 +50,13 @@ loop-i-preserved c =
     let plain : Plain a.ow s.o (tag_word a.w a.h f (a.x + s.i) a.y 0) s.out =
     rw s.invariant.2 (stands a.w a.h a.x a.y a.k a.ow a.at s.i a.picture.now a.out.now s.out all
     r.along r.down r.apart r.words (omega arith) c.requires.1 s.invariant.3) in
-    let more : c.if-all-ne0.out ≡ put_block a.ow s.o b s.out =
-    elim c.if-all-ne0.branch [
-      | goal.then-all-ne0 w ↦ w.out-is ∙ w.put_block.ensures
-      | goal.else-all-ne0 w ↦
-          w.out-is
-          ∙ plain_drawn a.w a.h f (a.x + s.i) a.y a.ow s.o tags.result s.out
-          (omega (arith, r.words, s.invariant.2, s.invariant.3.long)) (omega (arith, r.apart)) plain (omega (arith, w.if-all-ne0.false))
-    ] in (
+    let drawn : (out : List ℕ) → out ≡ put_block a.ow s.o b s.out → Rowed a.ow a.at (s.i + 1) all a.out.now out =
+    λ out more. rowed_more a.ow a.at s.i all a.out.now s.out out b s.o (omega (arith, r.words)) s.invariant.3 s.invariant.2 e more in
+    let stay : tags.result.t0 + 256 * tags.result.t1 + 65536 * tags.result.t2 + 16777216 * tags.result.t3 ≡ 0 → s.out ≡ put_block a.ow s.o b s.out =
+    λ z. plain_drawn a.w a.h f (a.x + s.i) a.y a.ow s.o tags.result s.out
+    (omega (arith, r.words, s.invariant.2, s.invariant.3.long)) (omega (arith, r.apart)) plain z in (
       omega arith,
       omega arith,
       omega arith,
-      rowed_more a.ow a.at s.i all a.out.now s.out c.if-all-ne0.out b s.o (omega (arith, r.words)) s.invariant.3 s.invariant.2
-          e more,
+      drawn _ (search (rules, stay)),
     )
