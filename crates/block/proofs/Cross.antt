@@ -1,6 +1,6 @@
 -- What a block depends on, for every size of picture and for every setting of clarity, lawful or not: section 6's cross, and its nine words.
 -- Assumes nothing.
-use Rattle.std.specs.Prelude.{◌≡◌, refl, ℕ, ◌+◌, ◌-◌, ◌<◌, pos, length, get_or}
+use Rattle.std.specs.Prelude.{◌≡◌, refl, ℕ, ◌<◌, pos, length, get_or}
 use Rattle.std.proofs.Common.{arith}
 use mathlib.Core.List.{[], ◌∷◌}
 use Rattle.picture.specs.Picture.{moved}

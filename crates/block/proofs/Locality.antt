@@ -4,7 +4,6 @@ use Rattle.std.proofs.Common.{sym, arith}
 use Rattle.picture.specs.Local.{narrower}
 use Rattle.picture.specs.Span.{Span}
 use Rattle.picture.proofs.Windows.{windowed}
-use Rattle.picture.specs.Pipeline as Pipeline
 use Rattle.clarity.specs.declared.Clarity.{Clarity}
 use Rattle.block.specs.Block.{block_of}
 use Rattle.block.proofs.Cross.{matched}

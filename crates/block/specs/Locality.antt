@@ -1,6 +1,5 @@
 -- The passes of this repository as stages of a pipeline, and the tag of each word of a block. Definitions only.
-use Rattle.std.specs.Prelude.{ℕ, zero, suc, ◌-◌}
-use Rattle.picture.specs.Pipeline as Pipeline
+use Rattle.std.specs.Prelude.{ℕ, zero, suc}
 use Rattle.picture.specs.Pipeline.{Stages}
 use Rattle.clarity.specs.declared.Clarity.{Clarity}
 use Rattle.metric.specs.declared.Metric.{Metric}
