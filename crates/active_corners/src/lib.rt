@@ -6,9 +6,9 @@ ghost use Rattle.std.specs.Prelude.{◌≡◌};
 ghost use Rattle.active_corners.specs.Active.{at0, at1, at2, at3, dominance_of, vote_of, inject_of, suppress_of, weightless_of};
 ghost use Rattle.active_corners.specs.Active.{active_corners};
 
-use metric::Weights;
+use metric::{Around, Weights};
 
-// The source's [f32; 3]: a corner's weight, between those before and after it around its pixel.
+// The source's [f32; 3]: a corner's weight, between those before and after it around its pixel. No array: definitions name the three.
 #[derive(Clone, Copy)]
 pub struct Triple(pub f32, pub f32, pub f32);
 
@@ -19,7 +19,7 @@ pub struct Corner {
     pub active: bool,
 }
 
-// Which corners of a pixel are active, after the suppression.
+// Which corners of a pixel are active, after the suppression. No array, as the definition `suppress_of` names the four.
 #[derive(Clone, Copy)]
 pub struct Active {
     pub a0: bool,
@@ -28,18 +28,21 @@ pub struct Active {
     pub a3: bool,
 }
 
+#[tactic(auto, using(single::proofs::Constants::two_is), unfolding(crate::specs::Active::dominance_of))]
 fn dominance(a: Triple) -> f32
     ensures { result ≡ dominance_of a }
 {
     2.0 * a.1 - (a.0 + a.2)
 }
 
+#[tactic(auto, using(single::proofs::Constants::zero_is), unfolding(crate::specs::Active::vote_of))]
 fn vote(own: f32, next: f32, opposite: f32, prev: f32) -> bool
     ensures { result ≡ vote_of own next opposite prev }
 {
     (own > 0.0) & ((next <= 0.0) & (prev <= 0.0) | (own + opposite > next + prev))
 }
 
+#[tactic(auto, using(single::proofs::Constants::zero_is), unfolding(crate::specs::Active::inject_of))]
 fn inject(own: Triple, next: Triple, opposite: Triple, prev: Triple) -> Corner
     ensures { result ≡ inject_of own next opposite prev }
 {
@@ -102,6 +105,7 @@ fn bottom_left(c: Weights, b: Weights, bl: Weights, l: Weights) -> Corner
 }
 
 // End-of-line suppression, which reads the corners as they were before it.
+#[tactic(auto, unfolding(crate::specs::Active::suppress_of))]
 fn suppress(k0: Corner, k1: Corner, k2: Corner, k3: Corner) -> Active
     ensures { result ≡ suppress_of k0 k1 k2 k3 }
 {
@@ -113,29 +117,23 @@ fn suppress(k0: Corner, k1: Corner, k2: Corner, k3: Corner) -> Active
     }
 }
 
+// The pixel's weights are all 0.0, of either sign.
+#[tactic(auto, using(single::proofs::Constants::zero_is), unfolding(crate::specs::Active::weightless_of))]
 pub fn weightless(c: Weights) -> bool
     ensures { result ≡ weightless_of c }
 {
     (c.w0 == 0.0) & (c.w1 == 0.0) & (c.w2 == 0.0) & (c.w3 == 0.0)
 }
 
-pub fn active_corners(
-    tl: Weights,
-    t: Weights,
-    tr: Weights,
-    l: Weights,
-    c: Weights,
-    r: Weights,
-    bl: Weights,
-    b: Weights,
-    br: Weights,
-) -> Active
-    ensures { result ≡ active_corners tl t tr l c r bl b br }
+// The active corners of a pixel, of the weights around it.
+#[tactic(auto, unfolding(crate::specs::Active::active_corners))]
+pub fn active_corners(s: Around<Weights>) -> Active
+    ensures { result ≡ active_corners s.tl s.t s.tr s.l s.c s.r s.bl s.b s.br }
 {
     suppress(
-        top_left(c, l, tl, t),
-        top_right(c, t, tr, r),
-        bottom_right(c, r, br, b),
-        bottom_left(c, b, bl, l),
+        top_left(s.c, s.l, s.tl, s.t),
+        top_right(s.c, s.t, s.tr, s.r),
+        bottom_right(s.c, s.r, s.br, s.b),
+        bottom_left(s.c, s.b, s.bl, s.l),
     )
 }

@@ -1,5 +1,6 @@
 // Headers and items as the arrays of numbers that the C face takes: w, h, left, top, width and height of the lock, and kind and pattern of
-// the setting of clarity; column, row and word.
+// the setting of clarity; column, row and word. They are functions and no `From`: both types stand in crates below, `header_of` is lent its
+// numbers, and `numbers_of` asks for a lawful setting.
 #![tactic(auto)]
 
 ghost use Rattle.std.specs.Prelude.{◌≡◌, map, ◌≤◌, T, length};
@@ -12,24 +13,25 @@ ghost use Rattle.arrays.specs.Header.{header_of, bits_of, numbers_of};
 ghost use Rattle.arrays.specs.Item.{paint_of};
 
 use clarity::{Clarity, clarity_of, kind_of};
+use gathered::gather_items;
 use header::{Header, Rectangle};
-use paints::{Paint, none};
+use paints::Paint;
 
 // The header that its numbers stand for.
 pub fn header_of(numbers: &[u32; 8]) -> Header
     ensures { result ≡ header_of numbers.now }
 {
-    let clarity = clarity_of(numbers[6], numbers[7]);
+    let [w, h, left, top, width, height, kind, bits] = *numbers;
     Header {
-        w: numbers[0],
-        h: numbers[1],
+        w,
+        h,
         lock: Rectangle {
-            left: numbers[2],
-            top: numbers[3],
-            width: numbers[4],
-            height: numbers[5],
+            left,
+            top,
+            width,
+            height,
         },
-        clarity,
+        clarity: clarity_of(kind, bits),
     }
 }
 
@@ -48,8 +50,7 @@ fn bits_of(clarity: Clarity) -> u32
 {
     match clarity {
         Clarity::Standard => 0,
-        Clarity::Threshold(t) => pattern(t),
-        Clarity::Gated(t) => pattern(t),
+        Clarity::Threshold(t) | Clarity::Gated(t) => pattern(t),
     }
 }
 
@@ -77,16 +78,5 @@ pub fn paints_of(items: &[[u32; 3]], m: usize) -> [Paint; 64]
     requires { (m ≤ length items.now) × (m ≤ 64) }
     ensures { result ≡ gathered (map paint_of items.now) m }
 {
-    let mut a = none();
-    let mut i: usize = 0;
-    while i < m {
-        let item = items[i];
-        a[i] = Paint {
-            column: item[0],
-            row: item[1],
-            word: item[2],
-        };
-        i += 1;
-    }
-    a
+    gather_items(items, m)
 }

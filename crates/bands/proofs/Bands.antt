@@ -2,17 +2,17 @@
 use mathlib.Core.Path.{◌≡◌, refl, sym, ap, ◌∙◌}
 use mathlib.Core.List.{List, [], ◌++◌, append-nil}
 use Prim.Native.Nat.{ℕ, zero, suc, ◌+◌, ◌-◌, ◌*◌, ◌/◌, ◌%◌, ◌≤◌, ◌<◌}
-use native.Mathlib.Nat.{le-div_iff_mul-le, div-lt_iff_lt-mul, mod-lt, mul-zero}
+use native.Mathlib.Nat.{le-div_iff_mul-le, div-lt_iff_lt-mul, mod-lt, mul-zero, mul-le-mul_right}
 use native.Mathlib.Decide.{dec_lt}
 use native.Mathlib.Omega.{arith}
 use lib.ListN.{length}
-use Rattle.clarity.specs.declared.Clarity.{Clarity}
 use Rattle.machine.specs.Lists.{set_all, count}
-use Rattle.machine.specs.Screen.{Screen, Lawful, block_words}
 use Rattle.machine.proofs.Lists.{first_from_length}
 use Rattle.marks.specs.Marks.{stale_in, chosen, Inside}
 use Rattle.marks.proofs.Counts.{chosen_split, none_wanted}
-use Rattle.stale_runs.specs.Steps.{Draws, Swept}
+use Rattle.screens.specs.declared.frame.Frame.{Frame}
+use Rattle.screens.specs.Frames.{Buffers}
+use Rattle.stale_runs.specs.Frames.{FirstOf, SweptOf}
 use Rattle.stale_runs.proofs.Loops.{draws_same}
 use Rattle.stale_runs.proofs.Swept.{swept_two, swept_as, swept_done}
 use Rattle.stale_runs.proofs.Parts.{rows_run, run_rows, whole_before, last_before, before_end}
@@ -54,38 +54,56 @@ end_of w y y' e n m lo hi c few =
 
 -- ---- a band drawn
 
-module _ (S : Screen) (lawful : Lawful S) (w h : ℕ) (q : Clarity) {picture : List ℕ} {y y' n stale : ℕ} {out m : List ℕ} (room : block_words S * (w * h) ≤ length out)
-    (up : y * w ≤ y' * w) (top : y' * w ≤ w * h) (long : y' * w ≤ length m) (counted : stale ≡ count (stale_in (y * w) (y' * w) m)) where
-  pub band_all : {out' m' : List ℕ} → stale ≤ n → Swept S w h q (Inside w 0 w y y') picture out m out' m'
-      → Draws S w h q (y * w) (y' * w) n picture out m out' m' stale
+-- the band lies within the picture and the marks
+record Band (f : Frame) (y y' m : ℕ) : Type 0 where
+  up : y * f.picture.w ≤ y' * f.picture.w
+  top : y' * f.picture.w ≤ f.picture.w * f.picture.h
+  long : y' * f.picture.w ≤ m
+
+band_of : (f : Frame) {y y' o m : ℕ} → Buffers f o m → y ≤ y' → y' ≤ f.picture.h → Band f y y' m
+band_of f room ordered inside =
+    let top = mul-le-mul_right f.picture.w inside in
+    record { up = mul-le-mul_right f.picture.w ordered; top = omega (arith, top); long = omega (arith, top, room.for_marks) }
+
+module _ (f : Frame) {y y' n stale : ℕ} {out m : List ℕ} (room : Buffers f (length out) (length m))
+    (ordered : y ≤ y') (inside : y' ≤ f.picture.h) (counted : stale ≡ count (stale_in (y * f.picture.w) (y' * f.picture.w) m)) where
+  pub band_all : {out' m' : List ℕ} → stale ≤ n → SweptOf f (Inside f.picture.w 0 f.picture.w y y') out m out' m'
+      → FirstOf f (y * f.picture.w) (y' * f.picture.w) n out m out' m' stale
   band_all few s = record {
     stale_before = counted;
     draws =
-        swept_done S lawful w h q (y * w) (y' * w) n
-        (swept_as S w h q picture (λ b i. rows_run w (omega (arith, i.right)) y y' b i) (λ b r. run_rows w (some_of w y' b r.1) y y' b r) s)
-        room up top long (omega (arith, counted));
+        swept_done f (y * f.picture.w) (y' * f.picture.w) n
+        (swept_as f (λ b i. rows_run f.picture.w (omega (arith, i.right)) y y' b i) (λ b r. run_rows f.picture.w (some_of f.picture.w y' b r.1) y y' b r) s)
+        room.for_output band.up band.top band.long (omega (arith, counted));
   }
+    where
+      band : Band f y y' (length m)
+      band = band_of f room ordered inside
 
   -- whole rows and the first blocks of a row, before the block e
-  pub band_part : {out' m' out'' m'' : List ℕ} (e : ℕ) → End w y y' e → y * w ≤ e → e ≤ y' * w → count (stale_in (y * w) e m) ≡ n
-      → Swept S w h q (Inside w 0 w y (e / w)) picture out m out' m'
-      → Swept S w h q (Inside w 0 (e % w) (e / w) (e / w + 1)) picture out' m' out'' m''
-      → Draws S w h q (y * w) (y' * w) n picture out m out'' m'' stale
+  pub band_part : {out' m' out'' m'' : List ℕ} (e : ℕ) → End f.picture.w y y' e → y * f.picture.w ≤ e → e ≤ y' * f.picture.w
+      → count (stale_in (y * f.picture.w) e m) ≡ n
+      → SweptOf f (Inside f.picture.w 0 f.picture.w y (e / f.picture.w)) out m out' m'
+      → SweptOf f (Inside f.picture.w 0 (e % f.picture.w) (e / f.picture.w) (e / f.picture.w + 1)) out' m' out'' m''
+      → FirstOf f (y * f.picture.w) (y' * f.picture.w) n out m out'' m'' stale
   band_part e end lo hi c s t = record {
     stale_before = counted;
     draws =
-        draws_same S w h q picture (sym all) refl refl
-        (swept_done S lawful w h q (y * w) e n
-        (swept_two S w h q picture (whole_before w end.some y e lo) (last_before w end.some y e lo) (before_end w end.some y e lo) s t)
-        room lo (omega (arith, top)) (omega (arith, long)) (omega (arith, c)));
+        draws_same f (sym all) refl refl
+        (swept_done f (y * f.picture.w) e n
+        (swept_two f (whole_before f.picture.w end.some y e lo) (last_before f.picture.w end.some y e lo) (before_end f.picture.w end.some y e lo) s t)
+        room.for_output lo (omega (arith, band.top)) (omega (arith, band.long)) (omega (arith, c)));
   }
     where
+      band : Band f y y' (length m)
+      band = band_of f room ordered inside
+
       -- as many as asked for lie before e, so none of the rest is drawn
       first : List ℕ
-      first = chosen (y * w) e n m
+      first = chosen (y * f.picture.w) e n m
 
-      rest : chosen e (y' * w) (n - length first) (set_all first 0 m) ≡ []
-      rest = none_wanted e (y' * w) n (length first) (set_all first 0 m) (omega (arith, first_from_length (y * w) n (stale_in (y * w) e m), c))
+      rest : chosen e (y' * f.picture.w) (n - length first) (set_all first 0 m) ≡ []
+      rest = none_wanted e (y' * f.picture.w) n (length first) (set_all first 0 m) (omega (arith, first_from_length (y * f.picture.w) n (stale_in (y * f.picture.w) e m), c))
 
-      all : chosen (y * w) (y' * w) n m ≡ first
-      all = chosen_split (y * w) e (y' * w) n m lo hi long ∙ ap (λ (l : List ℕ). first ++ l) rest ∙ append-nil first
+      all : chosen (y * f.picture.w) (y' * f.picture.w) n m ≡ first
+      all = chosen_split (y * f.picture.w) e (y' * f.picture.w) n m lo hi band.long ∙ ap (λ (l : List ℕ). first ++ l) rest ∙ append-nil first

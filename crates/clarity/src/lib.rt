@@ -26,26 +26,21 @@ pub fn lawful(clarity: Clarity) -> bool
 {
     match clarity {
         Clarity::Standard => true,
-        Clarity::Threshold(t) => lawful_single(t),
-        Clarity::Gated(t) => lawful_single(t),
+        Clarity::Threshold(t) | Clarity::Gated(t) => lawful_single(t),
     }
 }
 
 // The setting that a kind and a single stand for, as a C caller gives them. With kind 0 the single is not looked at; a kind above 2 gives
-// a setting that is not lawful.
+// a setting that is not lawful, as the definition `setting_of` says: who refuses it, and after which other conditions, is the caller's.
 pub fn setting_of(kind: u32, threshold: f32) -> Clarity
     ensures { result ≡ setting_of kind threshold }
 {
-    if kind == 0 {
-        return Clarity::Standard;
+    match kind {
+        0 => Clarity::Standard,
+        1 => Clarity::Threshold(threshold),
+        2 => Clarity::Gated(threshold),
+        _ => Clarity::Threshold(0.0),
     }
-    if kind == 1 {
-        return Clarity::Threshold(threshold);
-    }
-    if kind == 2 {
-        return Clarity::Gated(threshold);
-    }
-    Clarity::Threshold(0.0)
 }
 
 // The setting that a kind and a single's pattern stand for, as a header of a C caller has them. Nobody vouches for a header: the pattern is
@@ -60,7 +55,7 @@ pub fn clarity_of(kind: u32, bits: u32) -> Clarity
     setting_of(kind, f32::from_bits(bits))
 }
 
-// A setting's kind.
+// A setting's kind, as a C caller is given it.
 pub fn kind_of(clarity: Clarity) -> u32
     ensures { result ≡ kind_of clarity }
 {

@@ -51,19 +51,6 @@ unfolding weighed_of
 weighed_small r s g b hr hs hg hb =
     omega (arith, times_small (1020 + r + s) (gap r s) (gap_small r s hr hs), times_small 2040 g hg, times_small (1530 - r - s) b hb)
 
--- as the code computes it: the gap of the reds, the three products and their sum
-pub by_parts : (r s g b d x y z : ℕ) → d ≡ gap r s → x ≡ (1020 + r + s) * squared d → y ≡ 2040 * squared g → z ≡ (1530 - r - s) * squared b
-    → x + y + z ≡ weighed_of r s g b
-unfolding weighed_of
-by_parts r s g b d x y z ed ex ey ez = cc
-
--- as the code computes it: each channel, then the gaps, then the sum
-pub by_channels : (p q r s g h dg b d db n : ℕ) → r ≡ red_of p → s ≡ red_of q → g ≡ green_of p → h ≡ green_of q → dg ≡ gap g h → b ≡ blue_of p
-    → d ≡ blue_of q → db ≡ gap b d → n ≡ weighed_of r s dg db → n ≡ nearness_of p q
-unfolding nearness_of
-by_channels p q r s g h dg b d db n er es eg eh edg eb ed edb e =
-    cc (weighed_is (red_of p) (green_of p) (blue_of p) (red_of q) (green_of q) (blue_of q))
-
 module _ (p q : ℕ) where
   pub nearness_small : nearness_of p q ≤ 298464750
   unfolding nearness_of N weighed_of

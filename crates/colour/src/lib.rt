@@ -2,38 +2,30 @@
 #![tactic(auto)]
 
 ghost use Rattle.std.specs.Prelude.{◌≡◌, ◌*◌, ◌≤◌};
-ghost use Rattle.colour.specs.Nearness.{gap, nearness_of, squared};
+ghost use Rattle.colour.specs.Nearness.{nearness_of, squared};
 ghost use Rattle.colour.specs.Weighed.{weighed_of};
 
 use channels::{blue, green, red};
 
-// The difference of two channels, without its sign.
-fn apart(a: u32, b: u32) -> u32
-    requires { (a ≤ 255) × (b ≤ 255) }
-    ensures { (result ≡ gap a b) × (result ≤ 255) }
-{
-    if a < b {
-        return b - a;
-    }
-    a - b
-}
-
 // k times n squared.
-fn times_square(k: u32, n: u32) -> u32
-    requires { (k ≤ 2040) × (n ≤ 255) }
+fn times_square(k: u32, n: u8) -> u32
+    requires { k ≤ 2040 }
     ensures { (result ≡ k * squared n) × (result ≤ k * 65025) }
 {
+    let n = n as u32;
     k * (n * n)
 }
 
+#[tactic(auto, unfolding(crate::specs::Weighed::weighed_of, crate::specs::Nearness::gap))]
 // N of two reds and of the gaps of the greens and the blues.
-fn weighed(r: u32, s: u32, g: u32, b: u32) -> u32
-    requires { (r ≤ 255) × ((s ≤ 255) × ((g ≤ 255) × (b ≤ 255))) }
+fn weighed(r: u8, s: u8, g: u8, b: u8) -> u32
     ensures { (result ≡ weighed_of r s g b) × (result ≤ 298464750) }
 {
-    times_square(1020 + r + s, apart(r, s)) + times_square(2040, g) + times_square(1530 - r - s, b)
+    let reds = r as u32 + s as u32;
+    times_square(1020 + reds, r.abs_diff(s)) + times_square(2040, g) + times_square(1530 - reds, b)
 }
 
+#[tactic(auto, using(crate::proofs::Laws::weighed_is), unfolding(crate::specs::Nearness::nearness_of, crate::specs::Nearness::gap))]
 // N of two words.
 pub fn nearness(p: u32, q: u32) -> u32
     ensures { (result ≡ nearness_of p q) × (result ≤ 298464750) }
@@ -41,7 +33,7 @@ pub fn nearness(p: u32, q: u32) -> u32
     weighed(
         red(p),
         red(q),
-        apart(green(p), green(q)),
-        apart(blue(p), blue(q)),
+        green(p).abs_diff(green(q)),
+        blue(p).abs_diff(blue(q)),
     )
 }

@@ -1,31 +1,44 @@
 -- A run of a picture's words, three times each. Assumes nothing.
-use mathlib.Core.Path.{◌≡◌, refl, ◌∙◌, ap}
+use mathlib.Core.Path.{◌≡◌, refl, sym, ◌∙◌, ap}
 use mathlib.Core.List.{List, [], ◌∷◌}
-use Prim.Native.Nat.{ℕ, ◌+◌, ◌*◌, ◌≤◌}
+use Prim.Native.Nat.{ℕ, zero, suc, ◌+◌, ◌-◌, ◌*◌, ◌≤◌, ◌<◌}
 use native.Mathlib.Omega.{arith}
-use lib.ListN.{length, get_or}
-use Rattle.picture.specs.Fill.{put, flat, flat_same, Filled, fill_run, length_flat}
+use lib.ListN.{length, get_or, take, drop}
+use lib.Seq.{get_or-take, get_or-drop, drop-drop}
+use borrow.Rule.Slice.PartMut.{put_mid, mid_of}
+use Rattle.std.specs.Simd.{first_chunks}
+use Rattle.std.proofs.Math.Nat.{suc-mul, zero-mul}
+use Rattle.picture.specs.Fill.{put, flat_same, Filled, fill_run, length_flat}
 use Rattle.block.specs.Copies.{thrice}
+use Rattle.copies.proofs.Parts.{part_put}
 
--- ---- a run of a picture's words, three times each
-
--- word j of the run from element i on, three times
-abbrev pub copies : List ℕ → ℕ → ℕ → List ℕ
-copies picture i j = get_or picture (i + j) 0 ∷ get_or picture (i + j) 0 ∷ get_or picture (i + j) 0 ∷ []
-
--- m words of it, from the word j on; so, with y * w for i, the words of row y from a column on
-pub copies_from : (picture : List ℕ) (i j m : ℕ) → thrice m (λ n. get_or picture (i + j + n) 0) ≡ flat m (λ n. copies picture i (j + n))
-copies_from picture i j m =
-    flat_same m (copies picture (i + j)) (λ n. copies picture i (j + n))
-    (λ n h. let e : i + j + n ≡ i + (j + n) = omega arith in ap (λ (q : ℕ). get_or picture q 0 ∷ get_or picture q 0 ∷ get_or picture q 0 ∷ []) e)
-
-pub copies_more : (picture : List ℕ) (at i j m : ℕ) (l₀ l l' : List ℕ) (o : ℕ) → at + (j * 3 + m * 3) ≤ length l₀
-    → Filled at 3 j (copies picture i) l₀ l → o ≡ at + j * 3 → l' ≡ put o (thrice m (λ n. get_or picture (i + j + n) 0)) l
-    → Filled at 3 (j + m) (copies picture i) l₀ l'
-copies_more picture at i j m l₀ l l' o room f eo e =
-    fill_run at 3 j m (copies picture i) l₀ l l' o (λ n. refl) room f eo (e ∙ ap (λ (v : List ℕ). put o v l) (copies_from picture i j m))
-
--- ---- a row copied into three rows of the output
+-- word j of the run, three times
+abbrev pub copies : List ℕ → ℕ → List ℕ
+copies words j = get_or words j 0 ∷ get_or words j 0 ∷ get_or words j 0 ∷ []
 
 pub thrice_length : (k : ℕ) (c : ℕ → ℕ) → length (thrice k c) ≡ k * 3
 thrice_length k c = length_flat 3 (λ i. c i ∷ c i ∷ c i ∷ []) (λ i. refl) k
+
+-- after n words the next ones, those of a part of the run, are copied from the place `at` on
+pub copies_more : (words part : List ℕ) (n m at : ℕ) (l₀ l l' : List ℕ) → n * 3 + m * 3 ≤ length l₀ → m ≡ length part
+    → ((j : ℕ) → j < m → get_or part j 0 ≡ get_or words (n + j) 0) → Filled 0 3 n (copies words) l₀ l → at ≡ n * 3
+    → l' ≡ put 0 (thrice (length part) (λ j. get_or part j 0)) (mid_of at (length l - at) l)
+    → Filled 0 3 (n + m) (copies words) l₀ (put_mid at (length l - at) l l')
+copies_more words part n m at l₀ l l' room long same f ea e =
+    fill_run 0 3 n m (copies words) l₀ l _ at (λ j. refl) (omega arith) f (omega (arith, ea))
+    (part_put at (thrice (length part) (λ j. get_or part j 0)) l l' e
+    ∙ ap (λ (k : ℕ). put at (thrice k (λ j. get_or part j 0)) l) (sym long)
+    ∙ ap (λ (v : List ℕ). put at v l) (flat_same m _ _ (λ j h. ap (λ (a : ℕ). a ∷ a ∷ a ∷ []) (same j h))))
+
+-- chunk i of n words
+pub chunk_at : (n k : ℕ) (words : List ℕ) (i : ℕ) → i < k → get_or (first_chunks n k words) i [] ≡ take n (drop (i * n) words)
+chunk_at n zero words i h = absurd (omega arith)
+chunk_at n (suc k) words zero h = ap (λ (m : ℕ). take n (drop m words)) (sym (zero-mul n))
+chunk_at n (suc k) words (suc i) h =
+    let e : n + i * n ≡ suc i * n = omega (arith, suc-mul i n) in
+    chunk_at n k (drop n words) i (omega arith) ∙ ap (take n) (drop-drop (i * n) n words ∙ ap (λ (m : ℕ). drop m words) e)
+
+-- and its words
+pub chunk_word : (n k : ℕ) (words : List ℕ) (i j : ℕ) → i < k → j < n → get_or (get_or (first_chunks n k words) i []) j 0 ≡ get_or words (i * n + j) 0
+chunk_word n k words i j hi hj =
+    ap (λ (l : List ℕ). get_or l j 0) (chunk_at n k words i hi) ∙ get_or-take n (drop (i * n) words) j 0 hj ∙ get_or-drop (i * n) words j 0

@@ -3,34 +3,23 @@
 #![tactic(auto)]
 
 ghost use Rattle.std.specs.Prelude.{◌*◌, length};
-ghost use Rattle.machine.specs.Lent.{Lent};
-ghost use Rattle.screens.specs.Screens.{screen_of};
-ghost use Rattle.stale_runs.specs.Steps.{Draws};
+ghost use Rattle.screens.specs.Frames.{Buffers};
+ghost use Rattle.stale_runs.specs.Frames.{FirstOf};
 
 use bands::draw_band;
-use clarity::Clarity;
 use marks::count_stale;
-use picture::place::least;
-use tiles::rows;
+use screens::frame::Frame;
+use tiles::most;
 
 // The first n stale blocks drawn, and no longer stale. Answers how many were stale: the rows are counted on the way down, and what is
-// below the last band drawn in one go.
-pub fn draw_first(
-    picture: &[u32],
-    output: &mut [u32],
-    marks: &mut [u8],
-    w: u32,
-    h: u32,
-    clarity: Clarity,
-    scale: u32,
-    n: u32,
-) -> u32
-    requires { Lent (screen_of scale) w h (length picture.now) (length output.old) (length marks.old) }
-    ensures { Draws (screen_of scale) w h clarity 0 (w * h) n picture.now output.old marks.old
-        output.new marks.new result }
+// below the last band drawn in one go. The row goes on by one without a stale block or by a band.
+pub fn draw_first(frame: Frame, output: &mut [u32], marks: &mut [u8], n: u32) -> u32
+    requires { Buffers frame (length output.old) (length marks.old) }
+    ensures { FirstOf frame.entry 0 (frame.entry.picture.w * frame.entry.picture.h) n output.old marks.old output.new marks.new result }
 {
-    let width = w as usize;
-    let most = rows(scale);
+    let h = frame.picture.h;
+    let width = frame.picture.w as usize;
+    let rows = most(frame.scale).rows;
     let mut stale: u32 = 0;
     let mut y: u32 = 0;
     while y < h && stale < n {
@@ -38,19 +27,8 @@ pub fn draw_first(
         if count_stale(marks, start, start + width) == 0 {
             y += 1;
         } else {
-            let bottom = least(y + most, h);
-            stale += draw_band(
-                picture,
-                output,
-                marks,
-                w,
-                h,
-                clarity,
-                scale,
-                y,
-                bottom,
-                n - stale,
-            );
+            let bottom = (y + rows).min(h);
+            stale += draw_band(frame, y, bottom, n - stale, output, marks);
             y = bottom;
         }
     }

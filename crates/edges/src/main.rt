@@ -1,144 +1,101 @@
 // Three-times sessions at the edges of docs/RULES.md: each line is what a call answered, or words of the picture after it.
 #![tactic(auto)]
 
+ghost use Rattle.picture.specs.Answer.{refusal_of};
 ghost use Rattle.machine.specs.Calls.{PaintLists};
+ghost use Rattle.painted.specs.Answers.{count_in};
 ghost use Rattle.three.specs.Three.{screen3};
 
 use clarity::Clarity;
 use header::{Header, Rectangle};
-use lines::{line, number};
-use painted::PaintedList;
-use paints::{Paint, none};
+use lines::lent::Lent;
+use lines::line;
+use lines::walk::{beside, walk};
+use paints::Paint;
+use picture::refusal::{self, Refusal};
+use session::screen::Three;
 use session3x::Session3x;
 use std::io;
 
-fn refresh(
-    rt: &impl Print,
-    session: Session3x,
-    picture: &[u32],
-    output: &mut [u32],
-    marks: &mut [u8],
-    n: u32,
-) -> io::Result<()> {
-    let r = session.refresh(picture, output, marks, n);
-    line(rt, b"refresh", r.refusal, r.drawn, r.left)
-}
+// P pixels, and O words of output.
+type Lent3x<const P: usize, const O: usize> = Lent<Three, 9, P, O>;
 
-fn paint(
+// A lock call, and all of the header that it answered but the setting. It takes four numbers: calls with a literal of six lines are no
+// plainer.
+fn lock<const P: usize, const O: usize>(
     rt: &impl Print,
-    session: Session3x,
-    picture: &mut [u32],
-    marks: &mut [u8],
-    column: u32,
-    row: u32,
-    word: u32,
-) -> io::Result<()> {
-    let p = session.paint(picture, marks, column, row, word);
-    line(rt, b"paint", p.refusal, p.changed, p.stale)
-}
-
-fn show(
-    rt: &impl Print,
-    session: Session3x,
-    output: &[u32],
-    marks: &[u8],
-    bx: u32,
-    by: u32,
-) -> io::Result<()> {
-    let s = session.show(output, marks, bx, by);
-    line(rt, b"show", s.refusal, s.words[0], s.words[4])
-}
-
-// The rectangle locked, and the session that later calls are lent: the one answered, or after a refusal the one before.
-fn lock(
-    rt: &impl Print,
-    session: Session3x,
+    lent: &mut Lent3x<P, O>,
     left: u32,
     top: u32,
     width: u32,
     height: u32,
-) -> io::Result<Session3x> {
-    let l = session.lock(Rectangle {
+) -> io::Result<()> {
+    let answer = lent.lock(Rectangle {
         left,
         top,
         width,
         height,
     });
-    let header = l.session.header;
-    let lock = header.lock;
-    rt.print("lock")?;
-    number(rt, l.refusal)?;
-    number(rt, header.w)?;
-    number(rt, header.h)?;
-    number(rt, lock.left)?;
-    number(rt, lock.top)?;
-    number(rt, lock.width)?;
-    number(rt, lock.height)?;
-    rt.println("")?;
-    if l.refusal != 0 {
-        return Ok(session);
-    }
-    Ok(l.session)
+    let refusal = refusal::number(&answer);
+    let Header { w, h, lock, .. } = answer.unwrap_or_default().header;
+    let Rectangle {
+        left,
+        top,
+        width,
+        height,
+    } = lock;
+    println!(rt; "lock {refusal} {w} {h} {left} {top} {width} {height}")
 }
 
 // Locks at the borders of a picture of 4 by 3.
 fn locks(rt: &impl Print) -> io::Result<()> {
-    let mut picture = [1u32; 12];
-    let mut output = [7u32; 108];
-    let mut marks = [3u8; 12];
-    let o = Session3x::open(4, 3, Clarity::Standard, &picture, &mut output, &mut marks);
-    refresh(rt, o.session, &picture, &mut output, &mut marks, 12)?;
+    let mut lent: Lent3x<12, 108> = Lent::new([1; 12], 3);
+    let _ = lent.open(4, 3, Clarity::Standard);
+    lent.refresh(rt, 12)?;
     // It touches the right and the bottom border: refused inside, unchanged at an equal word, taken to its left and above it.
-    let s = lock(rt, o.session, 2, 1, 2, 2)?;
-    paint(rt, s, &mut picture, &mut marks, 2, 1, 5)?;
-    paint(rt, s, &mut picture, &mut marks, 3, 2, 5)?;
-    paint(rt, s, &mut picture, &mut marks, 3, 2, 1)?;
-    paint(rt, s, &mut picture, &mut marks, 1, 1, 5)?;
-    paint(rt, s, &mut picture, &mut marks, 2, 0, 5)?;
+    lock(rt, &mut lent, 2, 1, 2, 2)?;
+    lent.paint(rt, 2, 1, 5)?;
+    lent.paint(rt, 3, 2, 5)?;
+    lent.paint(rt, 3, 2, 1)?;
+    lent.paint(rt, 1, 1, 5)?;
+    lent.paint(rt, 2, 0, 5)?;
     // One column and one row past the picture, and a sum that 32 bits do not hold: refused, and the lock before stays.
-    let t = lock(rt, s, 3, 1, 2, 2)?;
-    let u = lock(rt, t, 2, 2, 1, 2)?;
-    let v = lock(rt, u, 4294967295, 0, 2, 1)?;
-    paint(rt, v, &mut picture, &mut marks, 3, 2, 5)?;
+    lock(rt, &mut lent, 3, 1, 2, 2)?;
+    lock(rt, &mut lent, 2, 2, 1, 2)?;
+    lock(rt, &mut lent, 4294967295, 0, 2, 1)?;
+    lent.paint(rt, 3, 2, 5)?;
     // Of width 0: answered as given, and nothing is locked.
-    let n = lock(rt, v, 4294967295, 4294967295, 0, 7)?;
-    paint(rt, n, &mut picture, &mut marks, 3, 2, 5)
-}
-
-fn list(
-    rt: &impl Print,
-    session: Session3x,
-    picture: &mut [u32],
-    marks: &mut [u8],
-    a: [Paint; 64],
-    n: u32,
-) -> io::Result<()> {
-    let p = session.paint_gathered(picture, marks, a, n as usize);
-    line(rt, b"list", p.refusal, p.stale, n)
+    lock(rt, &mut lent, 4294967295, 4294967295, 0, 7)?;
+    lent.paint(rt, 3, 2, 5)
 }
 
 // Four paints, lent as a slice.
-fn lend(session: Session3x, picture: &mut [u32], marks: &mut [u8], a: [Paint; 4]) -> PaintedList
+fn lend(
+    session: Session3x,
+    picture: &mut [u32],
+    marks: &mut [u8],
+    a: [Paint; 4],
+) -> Result<u32, Refusal>
     ensures { PaintLists screen3 session.header picture.old marks.old a
         (record {
           picture = picture.new;
           marks = marks.new;
-          refusal = result.refusal;
-          stale = result.stale;
+          refusal = refusal_of result;
+          stale = count_in result;
         }) }
 {
     session.paint_list(picture, marks, &a)
 }
 
-fn four(
-    rt: &impl Print,
-    session: Session3x,
-    picture: &mut [u32],
-    marks: &mut [u8],
-    a: [Paint; 4],
-) -> io::Result<()> {
-    let p = lend(session, picture, marks, a);
-    line(rt, b"list", p.refusal, p.stale, 4)
+fn four(rt: &impl Print, lent: &mut Lent3x<12, 108>, a: [Paint; 4]) -> io::Result<()> {
+    let answer = lend(lent.session, &mut lent.picture, &mut lent.marks, a);
+    line(
+        rt,
+        b"list",
+        refusal::number(&answer),
+        answer.unwrap_or_default(),
+        4,
+    )
 }
 
 fn item(column: u32, row: u32, word: u32) -> Paint {
@@ -146,216 +103,168 @@ fn item(column: u32, row: u32, word: u32) -> Paint {
 }
 
 // One position three times, with the word that was there at the end: its blocks are stale.
-fn repeated(
-    rt: &impl Print,
-    session: Session3x,
-    picture: &mut [u32; 12],
-    marks: &mut [u8; 12],
-) -> io::Result<()> {
-    let mut a = none();
+fn repeated(rt: &impl Print, lent: &mut Lent3x<12, 108>) -> io::Result<()> {
+    let mut a = [Paint::default(); 64];
     a[0] = item(0, 0, 5);
     a[1] = item(0, 0, 6);
     a[2] = item(0, 0, 1);
-    list(rt, session, picture, marks, a, 3)?;
-    line(rt, b"words", picture[0], picture[6], 0)
+    lent.list(rt, a, 3)?;
+    line(rt, b"words", lent.picture[0], lent.picture[6], 0)
 }
 
 // Through a slice: the last of four in the lock, and then the four taken.
-fn lent(
-    rt: &impl Print,
-    session: Session3x,
-    picture: &mut [u32; 12],
-    marks: &mut [u8; 12],
-) -> io::Result<()> {
-    let b = [item(0, 0, 8), item(1, 0, 9), item(0, 0, 10), item(3, 2, 5)];
-    four(rt, session, picture, marks, b)?;
-    line(rt, b"words", picture[0], picture[1], picture[11])?;
-    let c = [item(0, 0, 8), item(1, 0, 9), item(0, 0, 10), item(3, 2, 1)];
-    four(rt, session, picture, marks, c)?;
-    line(rt, b"words", picture[0], picture[1], picture[11])
+fn slices(rt: &impl Print, lent: &mut Lent3x<12, 108>) -> io::Result<()> {
+    for last in [5, 1] {
+        let a = [
+            item(0, 0, 8),
+            item(1, 0, 9),
+            item(0, 0, 10),
+            item(3, 2, last),
+        ];
+        four(rt, lent, a)?;
+        let [first, second, .., end] = lent.picture;
+        line(rt, b"words", first, second, end)?;
+    }
+    Ok(())
 }
 
 // Lists of paints on a picture of 4 by 3 with its last four pixels locked: each line has the refusal, the stale count and the items.
 fn lists(rt: &impl Print) -> io::Result<()> {
-    let mut picture = [1u32; 12];
-    let mut output = [7u32; 108];
-    let mut marks = [3u8; 12];
-    let o = Session3x::open(4, 3, Clarity::Standard, &picture, &mut output, &mut marks);
-    let s = lock(rt, o.session, 2, 1, 2, 2)?;
-    refresh(rt, s, &picture, &mut output, &mut marks, 12)?;
-    let mut a = none();
-    list(rt, s, &mut picture, &mut marks, a, 0)?;
+    let mut lent: Lent3x<12, 108> = Lent::new([1; 12], 3);
+    let _ = lent.open(4, 3, Clarity::Standard);
+    lock(rt, &mut lent, 2, 1, 2, 2)?;
+    lent.refresh(rt, 12)?;
+    let mut a = [Paint::default(); 64];
+    lent.list(rt, a, 0)?;
     // Equal words, one of them in the lock; another word in the lock behind a word that changes, which is not kept.
     a[0] = item(0, 0, 1);
     a[1] = item(2, 1, 1);
-    list(rt, s, &mut picture, &mut marks, a, 2)?;
+    lent.list(rt, a, 2)?;
     a[0] = item(0, 0, 5);
     a[2] = item(2, 1, 5);
-    list(rt, s, &mut picture, &mut marks, a, 3)?;
-    line(rt, b"words", picture[0], picture[6], 0)?;
+    lent.list(rt, a, 3)?;
+    line(rt, b"words", lent.picture[0], lent.picture[6], 0)?;
     // A position outside behind it, and before it.
     a[2] = item(4, 0, 1);
-    list(rt, s, &mut picture, &mut marks, a, 3)?;
+    lent.list(rt, a, 3)?;
     a[0] = item(0, 3, 1);
-    list(rt, s, &mut picture, &mut marks, a, 3)?;
+    lent.list(rt, a, 3)?;
     // 64 items are looked at, and of 65 none.
-    list(rt, s, &mut picture, &mut marks, a, 64)?;
-    list(rt, s, &mut picture, &mut marks, a, 65)?;
-    repeated(rt, s, &mut picture, &mut marks)?;
-    lent(rt, s, &mut picture, &mut marks)
+    lent.list(rt, a, 64)?;
+    lent.list(rt, a, 65)?;
+    repeated(rt, &mut lent)?;
+    slices(rt, &mut lent)
+}
+
+// A session on a picture of 2 by 2 whose header no call answered.
+fn made<const O: usize>(mark: u8, lock: Rectangle, clarity: Clarity) -> Lent3x<4, O> {
+    let mut lent: Lent3x<4, O> = Lent::new([0; 4], mark);
+    lent.session = Session3x::from(Header {
+        w: 2,
+        h: 2,
+        lock,
+        clarity,
+    });
+    lent
 }
 
 // A header that no call answered: its lock reaches past the picture.
 fn wild(rt: &impl Print) -> io::Result<()> {
-    let picture = [0u32; 4];
-    let mut output = [7u32; 36];
-    let mut marks = [0u8; 4];
-    let s = Session3x {
-        header: Header {
-            w: 2,
-            h: 2,
-            lock: Rectangle {
-                left: 1,
-                top: 0,
-                width: 2,
-                height: 1,
-            },
-            clarity: Clarity::Standard,
-        },
+    let past = Rectangle {
+        left: 1,
+        top: 0,
+        width: 2,
+        height: 1,
     };
-    refresh(rt, s, &picture, &mut output, &mut marks, 4)?;
-    show(rt, s, &output, &marks, 0, 0)?;
-    lock(rt, s, 0, 0, 0, 0)?;
-    Ok(())
+    let mut lent: Lent3x<4, 36> = made(0, past, Clarity::Standard);
+    lent.refresh(rt, 4)?;
+    lent.show(rt, 0, 0)?;
+    lock(rt, &mut lent, 0, 0, 0, 0)
 }
 
 // A header that no call answered: its setting is not lawful. That comes after a lock past the picture and a short buffer, and before the
 // items of a list, a position outside and a stale block.
 fn unlawful(rt: &impl Print) -> io::Result<()> {
-    let mut picture = [0u32; 4];
-    let mut output = [7u32; 36];
-    let mut short = [7u32; 35];
-    let mut marks = [1u8; 4];
-    let s = Session3x {
-        header: Header {
-            w: 2,
-            h: 2,
-            lock: Rectangle {
-                left: 0,
-                top: 0,
-                width: 0,
-                height: 0,
-            },
-            clarity: Clarity::Gated(0.0),
-        },
-    };
-    paint(rt, s, &mut picture, &mut marks, 2, 0, 1)?;
-    list(rt, s, &mut picture, &mut marks, none(), 65)?;
-    refresh(rt, s, &picture, &mut output, &mut marks, 4)?;
-    refresh(rt, s, &picture, &mut short, &mut marks, 4)?;
-    show(rt, s, &output, &marks, 2, 0)?;
-    lock(rt, s, 0, 0, 0, 0)?;
-    lock(rt, s, 1, 0, 2, 1)?;
-    line(rt, b"kept", picture[0], output[0], short[0])
+    let mut lent: Lent3x<4, 36> = made(1, Rectangle::default(), Clarity::Gated(0.0));
+    let mut short: Lent3x<4, 35> = made(1, Rectangle::default(), Clarity::Gated(0.0));
+    lent.paint(rt, 2, 0, 1)?;
+    lent.list(rt, [Paint::default(); 64], 65)?;
+    lent.refresh(rt, 4)?;
+    short.refresh(rt, 4)?;
+    lent.show(rt, 2, 0)?;
+    lock(rt, &mut lent, 0, 0, 0, 0)?;
+    lock(rt, &mut lent, 1, 0, 2, 1)?;
+    line(
+        rt,
+        b"kept",
+        lent.picture[0],
+        lent.output[0],
+        short.output[0],
+    )
 }
 
-// A session opened at a setting.
+// A session opened at a setting, with a word of its output, which a refusal leaves.
 fn opened(rt: &impl Print, clarity: Clarity) -> io::Result<()> {
-    let picture = [0u32; 1];
-    let mut output = [7u32; 9];
-    let mut marks = [3u8; 1];
-    let o = Session3x::open(1, 1, clarity, &picture, &mut output, &mut marks);
-    line(rt, b"open", o.refusal, output[0], o.stale)
+    let mut lent: Lent3x<1, 9> = Lent::new([0; 1], 3);
+    let answer = lent.open(1, 1, clarity);
+    let stale = answer.unwrap_or_default().stale;
+    line(rt, b"open", refusal::number(&answer), lent.output[0], stale)
 }
 
 // Both zeros, the smallest subnormal, 1.0 and the single above it, the infinities and what is not a number.
 fn thresholds(rt: &impl Print) -> io::Result<()> {
     let zero = 0.0f32;
-    opened(rt, Clarity::Threshold(0.0))?;
-    opened(rt, Clarity::Threshold(-0.0))?;
-    opened(rt, Clarity::Gated(-0.0))?;
-    opened(rt, Clarity::Threshold(1e-45))?;
-    opened(rt, Clarity::Gated(1e-45))?;
-    opened(rt, Clarity::Threshold(1.0))?;
-    opened(rt, Clarity::Gated(1.0))?;
-    opened(rt, Clarity::Threshold(1.0000001))?;
-    opened(rt, Clarity::Threshold(-0.5))?;
-    opened(rt, Clarity::Threshold(1.0 / zero))?;
-    opened(rt, Clarity::Threshold(-1.0 / zero))?;
-    opened(rt, Clarity::Threshold(zero / zero))?;
-    opened(rt, Clarity::Gated(zero / zero))?;
-    opened(rt, Clarity::Standard)
+    let settings = [
+        Clarity::Threshold(0.0),
+        Clarity::Threshold(-0.0),
+        Clarity::Gated(-0.0),
+        Clarity::Threshold(1e-45),
+        Clarity::Gated(1e-45),
+        Clarity::Threshold(1.0),
+        Clarity::Gated(1.0),
+        Clarity::Threshold(1.0000001),
+        Clarity::Threshold(-0.5),
+        Clarity::Threshold(1.0 / zero),
+        Clarity::Threshold(-1.0 / zero),
+        Clarity::Threshold(zero / zero),
+        Clarity::Gated(zero / zero),
+        Clarity::Standard,
+    ];
+    for clarity in settings {
+        opened(rt, clarity)?;
+    }
+    Ok(())
 }
 
 // Two greys, drawn at a setting after a lock call, which keeps it: three words of a block that differ from setting to setting.
 fn drawn(rt: &impl Print, clarity: Clarity) -> io::Result<()> {
-    let mut picture = [0u32; 16];
-    picture[1] = 0x404040;
-    picture[7] = 0x404040;
+    let mut picture = [0; 16];
+    for at in [1, 7, 14, 15] {
+        picture[at] = 0x404040;
+    }
     picture[10] = 0x606060;
-    picture[14] = 0x404040;
-    picture[15] = 0x404040;
-    let mut output = [7u32; 144];
-    let mut marks = [3u8; 16];
-    let o = Session3x::open(4, 4, clarity, &picture, &mut output, &mut marks);
-    let s = lock(rt, o.session, 0, 0, 1, 1)?;
-    refresh(rt, s, &picture, &mut output, &mut marks, 16)?;
-    let b = s.show(&output, &marks, 2, 2);
-    line(rt, b"block", b.words[2], b.words[3], b.words[6])
+    let mut lent: Lent3x<16, 144> = Lent::new(picture, 3);
+    let _ = lent.open(4, 4, clarity);
+    lock(rt, &mut lent, 0, 0, 1, 1)?;
+    lent.refresh(rt, 16)?;
+    let words = lent
+        .session
+        .show(&lent.output, &lent.marks, 2, 2)
+        .unwrap_or_default();
+    line(rt, b"block", words[2], words[3], words[6])
 }
 
 // A side past the limit.
 fn too_wide(rt: &impl Print) -> io::Result<()> {
-    let picture = [0u32; 4];
-    let mut output = [7u32; 36];
-    let mut marks = [3u8; 4];
-    let o = Session3x::open(
-        2049,
-        1,
-        Clarity::Standard,
-        &picture,
-        &mut output,
-        &mut marks,
-    );
-    line(rt, b"open", o.refusal, o.session.header.w, o.stale)
+    let mut lent: Lent3x<4, 36> = Lent::new([0; 4], 3);
+    lent.opened(rt, 2049, 1, Clarity::Standard)
 }
 
-// On a picture that is drawn: a paint outside, one of an equal word, and one of a word that differs in its top byte alone, which makes a
-// cross stale; shows of a block in it, of one beside it, and of one outside.
-fn beside(
-    rt: &impl Print,
-    session: Session3x,
-    picture: &mut [u32],
-    output: &[u32],
-    marks: &mut [u8],
-) -> io::Result<()> {
-    paint(rt, session, picture, marks, 32, 0, 1)?;
-    paint(rt, session, picture, marks, 10, 10, 1)?;
-    paint(rt, session, picture, marks, 10, 10, 16777217)?;
-    show(rt, session, output, marks, 10, 10)?;
-    show(rt, session, output, marks, 31, 31)?;
-    show(rt, session, output, marks, 0, 32)
-}
-
-// A picture of 32 by 32: nothing is drawn, and then all; paints away from borders and at two corners, in slices and at once.
+// A picture of 32 by 32, on which a changing paint makes a cross of blocks stale.
 fn crosses(rt: &impl Print) -> io::Result<()> {
-    let mut picture = [0u32; 1024];
-    let mut output = [7u32; 9216];
-    let mut marks = [0u8; 1024];
-    let o = Session3x::open(32, 32, Clarity::Standard, &picture, &mut output, &mut marks);
-    let s = o.session;
-    line(rt, b"open", o.refusal, s.header.w, o.stale)?;
-    show(rt, s, &output, &marks, 0, 0)?;
-    refresh(rt, s, &picture, &mut output, &mut marks, 0)?;
-    refresh(rt, s, &picture, &mut output, &mut marks, 4294967295)?;
-    paint(rt, s, &mut picture, &mut marks, 10, 10, 1)?;
-    refresh(rt, s, &picture, &mut output, &mut marks, 100)?;
-    refresh(rt, s, &picture, &mut output, &mut marks, 100)?;
-    paint(rt, s, &mut picture, &mut marks, 0, 0, 1)?;
-    refresh(rt, s, &picture, &mut output, &mut marks, 1024)?;
-    paint(rt, s, &mut picture, &mut marks, 31, 31, 1)?;
-    refresh(rt, s, &picture, &mut output, &mut marks, 1024)?;
-    beside(rt, s, &mut picture, &output, &mut marks)
+    let mut lent: Lent3x<1024, 9216> = Lent::new([0; 1024], 0);
+    walk(rt, &mut lent, 100)?;
+    beside(rt, &mut lent, 31, 31)
 }
 
 fn main(rt: HostRuntime) -> io::Result<()> {
@@ -366,9 +275,15 @@ fn main(rt: HostRuntime) -> io::Result<()> {
     wild(&rt)?;
     unlawful(&rt)?;
     thresholds(&rt)?;
-    drawn(&rt, Clarity::Standard)?;
-    drawn(&rt, Clarity::Threshold(0.5))?;
-    drawn(&rt, Clarity::Gated(0.5))?;
-    drawn(&rt, Clarity::Threshold(0.25))?;
-    drawn(&rt, Clarity::Threshold(1.0))
+    let settings = [
+        Clarity::Standard,
+        Clarity::Threshold(0.5),
+        Clarity::Gated(0.5),
+        Clarity::Threshold(0.25),
+        Clarity::Threshold(1.0),
+    ];
+    for clarity in settings {
+        drawn(&rt, clarity)?;
+    }
+    Ok(())
 }

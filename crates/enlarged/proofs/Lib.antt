@@ -1,2 +1,1 @@
-mod Rest
 pub mod Front

@@ -2,51 +2,42 @@
 // that the buffers are long enough.
 #![tactic(auto)]
 
-ghost use Rattle.std.specs.Prelude.{length};
+ghost use Rattle.std.specs.Prelude.{◌*◌, length};
 ghost use Rattle.enlarged.specs.Passes.{Fits, Enlarged};
 
 use clarity::Clarity;
 use grid::Grid;
-use passes::passes;
+use passes::{Windows, passes};
+use picture::whole::Picture;
 use stored::put_rect;
 
 // The passes over a whole picture whose buffers are long enough, and its blocks stored.
 pub fn enlarge(
-    w: u32,
-    h: u32,
+    picture: Picture,
     clarity: Clarity,
-    picture: &[u32],
     output: &mut [u32],
     singles: &mut [f32],
     bytes: &mut [u8],
 )
-    requires { Fits w h (length picture.now) (length output.old) (length singles.old) (length bytes.old) }
-    ensures { Enlarged clarity w h picture.now output.old singles.old bytes.old
+    requires { Fits picture.w picture.h (picture.w * picture.h) (length output.old) (length singles.old) (length bytes.old) }
+    ensures { Enlarged clarity picture.entry.w picture.entry.h picture.entry.words.now output.old singles.old bytes.old
         output.new singles.new bytes.new }
 {
-    let g = Grid {
+    let all = Grid {
         x0: 0,
         y0: 0,
-        cols: w,
-        rows: h,
+        cols: picture.w,
+        rows: picture.h,
     };
-    let cut = (h as usize) * ((w as usize) * 4);
-    passes(picture, w, h, clarity, g, g, g, g, singles, cut, bytes, cut);
-    let tags = &bytes[cut..];
-    let stride = (w as usize) * 4;
-    put_rect(
-        picture,
-        w,
-        h,
-        0,
-        0,
-        w,
-        h,
-        tags,
-        0,
-        stride,
-        output,
-        3 * (w as usize),
-        0,
-    );
+    let windows = Windows {
+        metrics: all,
+        weights: all,
+        junctions: all,
+        tags: all,
+    };
+    let w = picture.w as usize;
+    let row = w * 4;
+    let cut = (picture.h as usize) * row;
+    passes(picture, clarity, windows, singles, cut, bytes, cut);
+    put_rect(picture, all, &bytes[cut..], row, output, 3 * w);
 }

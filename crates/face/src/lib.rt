@@ -1,5 +1,7 @@
 // What the C face does for a session, once for both screens: the header and the items of a list come as the arrays of numbers that `arrays`
-// reads and writes. The screen's number is handed in; the C calls themselves are those of `panel`.
+// reads and writes, and each call answers the number of its refusal and, through what it is lent, the values of its answer: 0s beside a
+// refusal. The screen's number is handed in; the C calls themselves are those of `panel`, whose signatures these are: so they have many
+// parameters, and no `Result`.
 #![tactic(auto)]
 
 ghost use Rattle.std.specs.Prelude.{◌≡◌, map, ◌≤◌, T, length, replicate};
@@ -14,7 +16,8 @@ ghost use Rattle.arrays.specs.Item.{paint_of};
 use arrays::{header_of, numbers_of, paints_of};
 use clarity::setting_of;
 use header::Rectangle;
-use paints::few;
+use paints::{Paint, few};
+use picture::refusal::number;
 
 // A session opened on a picture, at the setting that a kind and a single stand for; its header and its stale count.
 pub fn open(
@@ -40,10 +43,11 @@ pub fn open(
         }) × (header.new ≡ numbers_of (header_of header.new)) }
 {
     let setting = setting_of(clarity, threshold);
-    let opened = calls::open(scale, w, h, setting, picture, output, marks);
+    let answer = calls::open(scale, w, h, setting, picture, output, marks);
+    let opened = answer.unwrap_or_default();
     *header = numbers_of(opened.header);
     *stale = opened.stale;
-    opened.refusal
+    number(&answer)
 }
 
 // One word of the picture painted.
@@ -69,10 +73,11 @@ pub fn paint(
         }) }
 {
     let lent = header_of(header);
-    let painted = painted::paint(scale, lent, picture, marks, column, row, word);
-    *changed = painted.changed;
+    let answer = painted::paint(scale, lent, picture, marks, Paint { column, row, word });
+    let painted = answer.unwrap_or_default();
+    *changed = u32::from(painted.changed);
     *stale = painted.stale;
-    painted.refusal
+    number(&answer)
 }
 
 // The paints of a list, all or none.
@@ -96,9 +101,9 @@ pub fn paint_list(
     let lent = header_of(header);
     let n = items.len();
     let a = paints_of(items, few(n));
-    let painted = painted::paint_gathered(scale, lent, picture, marks, a, n);
-    *stale = painted.stale;
-    painted.refusal
+    let answer = painted::paint_gathered(scale, lent, picture, marks, a, n);
+    *stale = answer.unwrap_or_default();
+    number(&answer)
 }
 
 // The first n stale blocks drawn.
@@ -123,10 +128,11 @@ pub fn refresh(
         }) }
 {
     let lent = header_of(header);
-    let refreshed = refreshed::refresh(scale, lent, picture, output, marks, n);
+    let answer = refreshed::refresh(scale, lent, picture, output, marks, n);
+    let refreshed = answer.unwrap_or_default();
     *drawn = refreshed.drawn;
     *left = refreshed.left;
-    refreshed.refusal
+    number(&answer)
 }
 
 // The words of a block, into as many zeros.
@@ -144,7 +150,7 @@ pub fn show(
         (record { refusal = result; words = block.new }) }
 {
     let lent = header_of(header);
-    calls::show(scale, lent, output, marks, bx, by, block)
+    number(&calls::show(scale, lent, output, marks, bx, by, block))
 }
 
 // The header with another rectangle locked.
@@ -169,7 +175,7 @@ pub fn lock(
         width,
         height,
     };
-    let answer = calls::lock(scale, lent, lock);
-    *locked = numbers_of(answer.header);
-    answer.refusal
+    let relocked = calls::lock(scale, lent, lock);
+    *locked = numbers_of(relocked.unwrap_or_default());
+    number(&relocked)
 }

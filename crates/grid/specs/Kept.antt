@@ -9,7 +9,7 @@ use native.Mathlib.Omega.{arith}
 use Rattle.std.specs.Float.Ieee.{nan}
 use Rattle.std.proofs.Math.ListN.{get_or}
 use Rattle.std.proofs.Math.Seq.{get_or-take, get_or-drop}
-use Rattle.picture.specs.Fill.{put, get_or_put, get_or_rect, length_rect, within}
+use Rattle.picture.specs.Fill.{put, get_or_put, get_or_rect, length_flat, length_rect, within}
 use Rattle.picture.specs.Local.{In, Agree}
 use Rattle.metric.specs.declared.Metric.{Metric}
 use Rattle.metric.specs.declared.Weights.{Weights}
@@ -26,6 +26,12 @@ start_in g x y i =
     let inside = within (y - g.y0) g.rows (x - g.x0) g.cols (omega arith) (omega arith) in
     omega (arith, mul_assoc g.rows g.cols 4)
 
+-- a row of records of four elements each
+pub row_long : {R E : Type 0} (elements : R → List E) → ((r : R) → length (elements r) ≡ 4) → (g : Grid) (f : ℕ → ℕ → R) (y : ℕ)
+    → length (row_of elements g f y) ≡ g.cols * 4
+unfolding row_of
+row_long elements four g f y = length_flat 4 (λ i. elements (f (g.x0 + i) y)) (λ i. four (f (g.x0 + i) y)) g.cols
+
 module _ {R E : Type 0} (none : E) (elements : R → List E) (four : (r : R) → length (elements r) ≡ 4) (g : Grid) (f : ℕ → ℕ → R) where
   -- l holds the rectangle's elements at its front
   pub Holds : List E → Type 0
@@ -36,8 +42,7 @@ module _ {R E : Type 0} (none : E) (elements : R → List E) (four : (r : R) →
   rect_length = length_rect 4 g.cols g.rows (λ i n. elements (f (g.x0 + i) (g.y0 + n))) (λ i n. four (f (g.x0 + i) (g.y0 + n)))
 
   pub row_length : (y : ℕ) → length (row_of elements g f y) ≡ g.cols * 4
-  unfolding row_of
-  row_length y = Rattle.picture.specs.Fill.length_flat 4 (λ i. elements (f (g.x0 + i) y)) (λ i. four (f (g.x0 + i) y)) g.cols
+  row_length y = row_long elements four g f y
 
   -- element j of the record of (x, y)
   pub element : (l : List E) → Holds l → (x y : ℕ) → Within g x y → (j : ℕ) → j < 4

@@ -3,14 +3,14 @@
 // picture.
 #![tactic(auto)]
 
-ghost use Rattle.std.specs.Prelude.{◌≡◌, ◌+◌};
+ghost use Rattle.std.specs.Prelude.{◌≡◌, ◌&&◌, ◌+◌, ◌*◌, ◌<◌, ltb};
 ghost use Rattle.header.specs.Header.{locked, past, fresh, with_lock, no_header};
 
 use clarity::Clarity;
 
 // A rectangle of the picture: its first column and row, its columns and rows. As a lock of width or height 0 it locks nothing, whatever
-// the other three are.
-#[derive(Clone, Copy)]
+// the other three are. The default is four 0s.
+#[derive(Clone, Copy, Default)]
 pub struct Rectangle {
     pub left: u32,
     pub top: u32,
@@ -26,43 +26,6 @@ pub struct Header {
     pub clarity: Clarity,
 }
 
-// The header that an opening answers: no lock.
-pub fn fresh(w: u32, h: u32, clarity: Clarity) -> Header
-    ensures { result ≡ fresh w h clarity }
-{
-    Header {
-        w,
-        h,
-        lock: Rectangle {
-            left: 0,
-            top: 0,
-            width: 0,
-            height: 0,
-        },
-        clarity,
-    }
-}
-
-// The header with another lock.
-pub fn with_lock(header: Header, lock: Rectangle) -> Header
-    ensures { result ≡ with_lock header lock }
-{
-    let clarity = header.clarity;
-    Header {
-        w: header.w,
-        h: header.h,
-        lock,
-        clarity,
-    }
-}
-
-// The header that stands beside a refusal.
-pub fn no_header() -> Header
-    ensures { result ≡ no_header }
-{
-    fresh(0, 0, Clarity::Standard)
-}
-
 // The first column past a rectangle, or the first row: in 64 bits, since in 32 a sum near 2^32 would wrap.
 fn end(start: u32, length: u32) -> u64
     ensures { result ≡ start + length }
@@ -70,21 +33,89 @@ fn end(start: u32, length: u32) -> u64
     (start as u64) + (length as u64)
 }
 
-// The position lies in the lock.
-pub fn locked(lock: Rectangle, column: u32, row: u32) -> bool
-    ensures { result ≡ locked lock column row }
-{
-    let right = end(lock.left, lock.width);
-    let bottom = end(lock.top, lock.height);
-    ((lock.left <= column) & ((column as u64) < right))
-        & ((lock.top <= row) & ((row as u64) < bottom))
+impl Rectangle {
+    // The first column past it, and the first row.
+    fn right(self) -> u64
+        ensures { result ≡ self.left + self.width }
+    {
+        end(self.left, self.width)
+    }
+
+    fn bottom(self) -> u64
+        ensures { result ≡ self.top + self.height }
+    {
+        end(self.top, self.height)
+    }
+
+    // The position lies in it, as a lock.
+    #[tactic(auto, unfolding(crate::specs::Header::locked))]
+    pub fn locked(self, column: u32, row: u32) -> bool
+        ensures { result ≡ locked self column row }
+    {
+        ((self.left <= column) & ((column as u64) < self.right()))
+            & ((self.top <= row) & ((row as u64) < self.bottom()))
+    }
+
+    // It reaches past a picture of w by h.
+    #[tactic(auto, unfolding(crate::specs::Header::past))]
+    pub fn past(self, w: u32, h: u32) -> bool
+        ensures { result ≡ past w h self }
+    {
+        ((0 < self.width) & (0 < self.height))
+            & (((w as u64) < self.right()) | ((h as u64) < self.bottom()))
+    }
 }
 
-// The rectangle reaches past a picture of w by h.
-pub fn past(w: u32, h: u32, r: Rectangle) -> bool
-    ensures { result ≡ past w h r }
-{
-    let right = end(r.left, r.width);
-    let bottom = end(r.top, r.height);
-    ((0 < r.width) & (0 < r.height)) & (((w as u64) < right) | ((h as u64) < bottom))
+impl Header {
+    // The header that an opening answers: no lock.
+    pub fn fresh(w: u32, h: u32, clarity: Clarity) -> Header
+        ensures { result ≡ fresh w h clarity }
+    {
+        let lock = Rectangle::default();
+        Header {
+            w,
+            h,
+            lock,
+            clarity,
+        }
+    }
+
+    // The header with another lock.
+    pub fn with_lock(self, lock: Rectangle) -> Header
+        ensures { result ≡ with_lock self lock }
+    {
+        Header { lock, ..self }
+    }
+
+    // How many blocks the picture has, a word and a mark each.
+    pub fn blocks(self) -> usize
+        ensures { result ≡ self.w * self.h }
+    {
+        (self.w as usize) * (self.h as usize)
+    }
+
+    // The picture has the position.
+    pub fn has(self, column: u32, row: u32) -> bool
+        ensures { result ≡ (ltb column self.w && ltb row self.h) }
+    {
+        (column < self.w) & (row < self.h)
+    }
+
+    // Which word of the picture stands at a position that it has, and which mark, in row order.
+    pub fn place(self, column: u32, row: u32) -> usize
+        requires { (column < self.w) × (row < self.h) }
+        ensures { (result ≡ row * self.w + column) × (result < self.w * self.h) }
+    {
+        (row as usize) * (self.w as usize) + (column as usize)
+    }
+}
+
+// By hand, since a setting has no default of its own.
+impl Default for Header {
+    ghost is_default = { λ header. header ≡ no_header };
+
+    // The header that stands beside a refusal.
+    fn default() -> Header {
+        Header::fresh(0, 0, Clarity::Standard)
+    }
 }

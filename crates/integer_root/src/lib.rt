@@ -4,30 +4,12 @@
 ghost use Rattle.std.specs.Prelude.{◌+◌, ◌-◌, ◌*◌, ◌/◌, ◌%◌, ◌^◌, ◌≤◌, ◌<◌};
 ghost use Rattle.integer_root.specs.Near.{Near};
 
-// The whole part of w's root, by halves.
-fn whole_root(w: u64) -> u64
-    requires { (2 ^ 46 ≤ w) × (w < 2 ^ 48) }
-    ensures { (result * result ≤ w) × (w < (result + 1) * (result + 1)) × (2 ^ 23 ≤ result) × (result < 2 ^ 24) }
-{
-    let mut lo: u64 = 0x80_0000;
-    let mut hi: u64 = 0x100_0000;
-    while lo + 1 < hi {
-        let mid = (lo + hi) / 2;
-        if mid * mid <= w {
-            lo = mid;
-        } else {
-            hi = mid;
-        }
-    }
-    lo
-}
-
 // The whole number nearest w's root, whatever the guess is worth.
 fn slow_root(w: u64) -> u64
     requires { (2 ^ 46 ≤ w) × (w ≤ 2 ^ 48 - 2 ^ 24) }
     ensures { Near w result }
 {
-    let q = whole_root(w);
+    let q = w.isqrt();
     if q * q + q < w { q + 1 } else { q }
 }
 

@@ -8,10 +8,11 @@ ghost use Rattle.junction.specs.Junction.{arbitrate_junctions};
 ghost use Rattle.junction.specs.Flags.{bit, condition_of, number_of, numbers_of};
 
 use active_corners::{Active, active_corners, weightless};
-use metric::{Metric, Pair, Weights};
+use metric::{Around, Metric, Pair, Weights};
 use single::{max, min};
 
-// The junction numbers of a pixel's corners: active + 2 horizontal + 4 vertical + 8 orientation.
+// The junction numbers of a pixel's corners: active + 2 horizontal + 4 vertical + 8 orientation. No array, since definitions and theorems
+// name the four.
 #[derive(Clone, Copy)]
 pub struct Junctions {
     pub n0: u8,
@@ -27,6 +28,7 @@ const NO_CORNER: Active = Active {
     a3: false,
 };
 
+#[tactic(auto, unfolding(crate::specs::Flags::condition_of))]
 fn junction_condition(diagonal: Pair, orth_a: Pair, orth_b: Pair) -> bool
     ensures { result ≡ condition_of diagonal orth_a orth_b }
 {
@@ -42,6 +44,7 @@ fn flag(t: bool, n: u8) -> u8
 }
 
 // A corner's number. Of each pair the first is along a row, the second along a column.
+#[tactic(auto, unfolding(crate::specs::Flags::number_of))]
 fn number(active: bool, diagonal: Pair, orth_a: Pair, orth_b: Pair) -> u8
     ensures { result ≡ number_of active diagonal orth_a orth_b }
 {
@@ -54,55 +57,49 @@ fn number(active: bool, diagonal: Pair, orth_a: Pair, orth_b: Pair) -> u8
     flag(active, 1) + flag(less & jcond, 2) + flag(more & jcond, 4) + flag(orient, 8)
 }
 
-// The numbers of a pixel, of its metrics and its active corners.
-fn numbers_of(
-    tl: Metric,
-    t: Metric,
-    l: Metric,
-    c: Metric,
-    r: Metric,
-    bl: Metric,
-    b: Metric,
-    br: Metric,
-    k: Active,
-) -> Junctions
-    ensures { result ≡ numbers_of tl t l c r bl b br k }
+// The numbers of a pixel, of the metrics around it, of which m.tr is not read, and of its active corners.
+#[tactic(auto, unfolding(crate::specs::Flags::numbers_of))]
+fn numbers_of(m: Around<Metric>, k: Active) -> Junctions
+    ensures { result ≡ numbers_of m.tl m.t m.l m.c m.r m.bl m.b m.br k }
 {
     Junctions {
-        n0: number(k.a0, Pair(l.tr, c.tl), Pair(l.r, c.t), Pair(tl.r, l.t)),
-        n1: number(k.a1, Pair(r.tl, c.tr), Pair(c.r, c.t), Pair(t.r, r.t)),
-        n2: number(k.a2, Pair(b.tr, br.tl), Pair(c.r, b.t), Pair(b.r, br.t)),
-        n3: number(k.a3, Pair(b.tl, bl.tr), Pair(l.r, b.t), Pair(bl.r, bl.t)),
+        n0: number(
+            k.a0,
+            Pair(m.l.tr, m.c.tl),
+            Pair(m.l.r, m.c.t),
+            Pair(m.tl.r, m.l.t),
+        ),
+        n1: number(
+            k.a1,
+            Pair(m.r.tl, m.c.tr),
+            Pair(m.c.r, m.c.t),
+            Pair(m.t.r, m.r.t),
+        ),
+        n2: number(
+            k.a2,
+            Pair(m.b.tr, m.br.tl),
+            Pair(m.c.r, m.b.t),
+            Pair(m.b.r, m.br.t),
+        ),
+        n3: number(
+            k.a3,
+            Pair(m.b.tl, m.bl.tr),
+            Pair(m.l.r, m.b.t),
+            Pair(m.bl.r, m.bl.t),
+        ),
     }
 }
 
-// The junctions of a pixel, of the metrics (m..) and the weights (s..) around it: tl is top-left, c the pixel itself, br bottom-right.
-pub fn arbitrate_junctions(
-    mtl: Metric,
-    mt: Metric,
-    ml: Metric,
-    mc: Metric,
-    mr: Metric,
-    mbl: Metric,
-    mb: Metric,
-    mbr: Metric,
-    stl: Weights,
-    st: Weights,
-    str: Weights,
-    sl: Weights,
-    sc: Weights,
-    sr: Weights,
-    sbl: Weights,
-    sb: Weights,
-    sbr: Weights,
-) -> Junctions
-    ensures { result ≡ arbitrate_junctions mtl mt ml mc mr mbl mb mbr stl st str sl sc sr sbl sb sbr }
+// The junctions of a pixel, of the metrics and the weights around it; the metric at the top-right, m.tr, is not read.
+pub fn arbitrate_junctions(m: Around<Metric>, s: Around<Weights>) -> Junctions
+    ensures { result
+        ≡ arbitrate_junctions m.tl m.t m.l m.c m.r m.bl m.b m.br s.tl s.t s.tr s.l s.c s.r s.bl s.b s.br }
 {
     // The corners of a weightless pixel, as most of a page are, are not active whatever is around it. This is the only branch, and the
     // numbers stand on both of its sides, so that compiled code finds the four corners side by side.
-    if weightless(sc) {
-        return numbers_of(mtl, mt, ml, mc, mr, mbl, mb, mbr, NO_CORNER);
+    if weightless(s.c) {
+        return numbers_of(m, NO_CORNER);
     }
-    let k = active_corners(stl, st, str, sl, sc, sr, sbl, sb, sbr);
-    numbers_of(mtl, mt, ml, mc, mr, mbl, mb, mbr, k)
+    let k = active_corners(s);
+    numbers_of(m, k)
 }

@@ -19,6 +19,7 @@ pub struct Pair {
 }
 
 // The junction numbers of a pixel.
+#[tactic(auto, unfolding(crate::specs::Lanes::lanes))]
 pub fn word(j: Junctions) -> u32
     ensures { result ≡ word_of j }
 {
@@ -26,6 +27,7 @@ pub fn word(j: Junctions) -> u32
 }
 
 // The corners 1 0 3 2: across the pixel.
+#[tactic(auto, unfolding(crate::specs::Lanes::across))]
 pub fn across(x: u32) -> u32
     ensures { result ≡ across x }
 {
@@ -33,6 +35,7 @@ pub fn across(x: u32) -> u32
 }
 
 // The corners 3 2 1 0: down the pixel.
+#[tactic(auto, unfolding(crate::specs::Lanes::down))]
 pub fn down(x: u32) -> u32
     ensures { result ≡ down x }
 {
@@ -40,6 +43,7 @@ pub fn down(x: u32) -> u32
 }
 
 // The corners 2 3 0 1: the opposite ones.
+#[tactic(auto, unfolding(crate::specs::Lanes::opposite))]
 pub fn opposite(x: u32) -> u32
     ensures { result ≡ opposite x }
 {
@@ -47,6 +51,7 @@ pub fn opposite(x: u32) -> u32
 }
 
 // The left corners, 0 and 3, of l, and the right ones of r.
+#[tactic(auto, unfolding(crate::specs::Lanes::beside))]
 pub fn beside(l: u32, r: u32) -> u32
     ensures { result ≡ beside l r }
 {
@@ -54,6 +59,7 @@ pub fn beside(l: u32, r: u32) -> u32
 }
 
 // The top corners, 0 and 1, of u, and the bottom ones of d.
+#[tactic(auto, unfolding(crate::specs::Lanes::above))]
 pub fn above(u: u32, d: u32) -> u32
     ensures { result ≡ above u d }
 {
@@ -61,6 +67,7 @@ pub fn above(u: u32, d: u32) -> u32
 }
 
 // For each side of the pixel, top, right, bottom, left: its corner of the same number, along that side.
+#[tactic(auto, unfolding(crate::specs::Lanes::own))]
 pub fn own(p: Pair) -> u32
     ensures { result ≡ own p.h p.v }
 {
@@ -68,6 +75,7 @@ pub fn own(p: Pair) -> u32
 }
 
 // For each side its other corner, the next one around the pixel.
+#[tactic(auto, unfolding(crate::specs::Lanes::after))]
 pub fn after(p: Pair) -> u32
     ensures { result ≡ after p.h p.v }
 {
@@ -76,6 +84,7 @@ pub fn after(p: Pair) -> u32
 }
 
 // In each byte a where the flag is 1, b where it is 0.
+#[tactic(auto, unfolding(crate::specs::Lanes::choose))]
 pub fn choose(flags: u32, a: u32, b: u32) -> u32
     ensures { result ≡ choose flags a b }
 {

@@ -4,31 +4,33 @@
 
 ghost use Rattle.std.specs.Prelude.{◌≡◌};
 ghost use Rattle.tag.specs.Words.{around_of, level2_of, level3_of, level4_near, level4_of, level5_of, level6_of};
-ghost use Rattle.tag.specs.Words.{far_corners, far_mids, far_of, nothing};
+ghost use Rattle.tag.specs.Words.{far_corners, far_mids, far_of};
 
 use junction::Junctions;
 use lanes::{ONES, Pair, above, across, after, beside, choose, down, opposite, own, word};
 use tag::{
-    FAR_H, FAR_V, FIRST_END, Far, FarCorners, FarMids, NEAR_H, NEAR_V, Neighbors, SECOND_END,
+    Cross, FAR_H, FAR_V, FIRST_END, Far, FarCorners, FarMids, NEAR_H, NEAR_V, Neighbors, SECOND_END,
 };
 
 // The junction numbers of the pixels left, right, above and below, for each corner by its own side and by the other.
-pub fn around(l: Junctions, r: Junctions, u: Junctions, d: Junctions) -> Neighbors
-    ensures { result ≡ around_of l r u d }
+#[tactic(auto, unfolding(tag::specs::Words::around_of))]
+pub fn around(x: Cross<Junctions>) -> Neighbors
+    ensures { result ≡ around_of x.left x.right x.up x.down }
 {
-    let a = word(l);
-    let b = word(r);
-    let s = word(u);
-    let t = word(d);
+    let l = word(x.left);
+    let r = word(x.right);
+    let u = word(x.up);
+    let d = word(x.down);
     Neighbors {
-        hs: beside(a, b),
-        ho: beside(b, a),
-        vs: above(s, t),
-        vo: above(t, s),
+        hs: beside(l, r),
+        ho: beside(r, l),
+        vs: above(u, d),
+        vo: above(d, u),
     }
 }
 
 // Level 2: the mid edge between two corners, of which this one is active.
+#[tactic(auto, unfolding(tag::specs::Words::level2_of))]
 pub fn level2(e: u32, n: Neighbors) -> Pair
     ensures { result ≡ level2_of e n }
 {
@@ -40,6 +42,7 @@ pub fn level2(e: u32, n: Neighbors) -> Pair
 }
 
 // Level 3: the corner beyond a level 2.
+#[tactic(auto, unfolding(tag::specs::Words::level3_of))]
 pub fn level3(p: Pair, n: Neighbors) -> Pair
     ensures { result ≡ level3_of p n }
 {
@@ -52,6 +55,7 @@ pub fn level3(p: Pair, n: Neighbors) -> Pair
 }
 
 // Level 4, but for what lies two pixels away: where it is 0, as on most of a page, nothing farther away counts.
+#[tactic(auto, unfolding(tag::specs::Words::level4_near))]
 pub fn level4_near(e: u32, n: Neighbors) -> Pair
     ensures { result ≡ level4_near e n }
 {
@@ -66,6 +70,7 @@ pub fn level4_near(e: u32, n: Neighbors) -> Pair
 }
 
 // Level 4: a run of four pixels.
+#[tactic(auto, unfolding(tag::specs::Words::level4_of))]
 fn level4(p: Pair, n2: Neighbors) -> Pair
     ensures { result ≡ level4_of p n2 }
 {
@@ -76,6 +81,7 @@ fn level4(p: Pair, n2: Neighbors) -> Pair
 }
 
 // Level 5: the mid edge of a run of four.
+#[tactic(auto, unfolding(tag::specs::Words::level5_of))]
 fn level5(p: Pair, n2: Neighbors, n3: Neighbors) -> Pair
     ensures { result ≡ level5_of p n2 n3 }
 {
@@ -88,6 +94,7 @@ fn level5(p: Pair, n2: Neighbors, n3: Neighbors) -> Pair
 }
 
 // Level 6: a run of six pixels.
+#[tactic(auto, unfolding(tag::specs::Words::level6_of))]
 fn level6(p: Pair, n3: Neighbors) -> Pair
     ensures { result ≡ level6_of p n3 }
 {
@@ -100,6 +107,7 @@ fn level6(p: Pair, n3: Neighbors) -> Pair
 }
 
 // What the levels 4 and 6 give to the corner tags. The tag of the second pixel in a direction is one more than that of the first.
+#[tactic(auto, unfolding(tag::specs::Words::far_corners, lanes::specs::Lanes::lanes))]
 fn far_corners(n: Neighbors, l4: Pair, l6: Pair) -> FarCorners
     ensures { result ≡ far_corners n l4 l6 }
 {
@@ -114,6 +122,7 @@ fn far_corners(n: Neighbors, l4: Pair, l6: Pair) -> FarCorners
 }
 
 // What level 5 gives to the mid-edge tags.
+#[tactic(auto, unfolding(tag::specs::Words::far_mids, lanes::specs::Lanes::lanes))]
 fn far_mids(n: Neighbors, l5: Pair) -> FarMids
     ensures { result ≡ far_mids n l5 }
 {
@@ -135,45 +144,17 @@ fn far_mids(n: Neighbors, l5: Pair) -> FarMids
 }
 
 // What lies two and three pixels away.
-pub fn farther(
-    p: Pair,
-    n: Neighbors,
-    l2: Junctions,
-    r2: Junctions,
-    u2: Junctions,
-    d2: Junctions,
-    l3: Junctions,
-    r3: Junctions,
-    u3: Junctions,
-    d3: Junctions,
-) -> Far
-    ensures { result ≡ far_of p n (around_of l2 r2 u2 d2) (around_of l3 r3 u3 d3) }
+#[tactic(auto, unfolding(tag::specs::Words::far_of))]
+pub fn farther(p: Pair, n: Neighbors, d2: Cross<Junctions>, d3: Cross<Junctions>) -> Far
+    ensures { result ≡ far_of p n (around_of d2.left d2.right d2.up d2.down) (around_of d3.left d3.right d3.up d3.down) }
 {
-    let n2 = around(l2, r2, u2, d2);
-    let n3 = around(l3, r3, u3, d3);
+    let n2 = around(d2);
+    let n3 = around(d3);
     let l4 = level4(p, n2);
     let l5 = level5(l4, n2, n3);
     let l6 = level6(l5, n3);
     Far {
         corners: far_corners(n, l4, l6),
         mids: far_mids(n, l5),
-    }
-}
-
-// What lies two and three pixels away, where no run of four passes.
-pub fn nothing() -> Far
-    ensures { result ≡ nothing }
-{
-    Far {
-        corners: FarCorners {
-            first: 0,
-            second: 0,
-            tag: 0,
-        },
-        mids: FarMids {
-            first: 0,
-            any: 0,
-            tag: 0,
-        },
     }
 }

@@ -4,17 +4,19 @@ use mathlib.Core.Bool.{Bool, true, false, cond, ◌&&◌, ◌||◌, false≢true
 use mathlib.Core.List.{List, ◌++◌}
 use Prim.Native.Nat.{ℕ, ◌+◌, ◌-◌, ◌*◌, ◌/◌, ◌%◌, ◌≤◌, ◌<◌, min}
 use native.Mathlib.Nat.{div-add-mod', le-div_iff_mul-le, div-lt_iff_lt-mul, mod-lt}
-use native.Mathlib.Decide.{ℕ_discrete, dec_lt}
+use native.Mathlib.Decide.{dec_lt}
 use native.Mathlib.Omega.{arith}
 use lib.Dec.{ltb, leb}
-use lib.ListN.{length, get_or, set, drop, replicate, length-set, length-append, length-drop, length-replicate, get_or-replicate, get_or-append}
-use lib.Seq.{ext_get_or, get_or-set_same, get_or-set_other, get_or-append-add, get_or-drop}
+use lib.ListN.{length, get_or, take, drop, replicate, length-drop, length-replicate, get_or-replicate, get_or-append}
+use lib.Seq.{ext_get_or, get_or-append_right, get_or-take, get_or-drop, length-take-le}
+use borrow.Rule.Slice.PartMut.{put_mid, same_len_mid}
 use borrow.Author.Tests.{le-leb, lt-ltb, ltb-true, leb-true}
 use Rattle.picture.specs.Local.{In}
-use Rattle.machine.specs.Lists.{stamp}
-use Rattle.marks.specs.Marks.{run, between, boxed}
+use Rattle.machine.specs.Lists.{stamp, set_all, has}
+use Rattle.marks.specs.Marks.{run, blocks_from, between, boxed}
 use Rattle.machine.proofs.Places.{block_lt, row_lt}
-use Rattle.machine.proofs.Lists.{bool_same, or_cond, length_stamp, get_or_stamp}
+use Rattle.machine.proofs.Lists.{bool_same, or_cond, length_stamp, get_or_stamp, length_set_all}
+use Rattle.machine.proofs.Order.{table_has, has_table, get_or_set_all}
 
 both : {a b : Bool} → a ≡ true → b ≡ true → (a && b) ≡ true
 both e f = ap₂ ◌&&◌ e f
@@ -55,32 +57,85 @@ run_in lo hi i a b = both (le-leb lo i a) (lt-ltb i hi b)
 run_of : (lo hi i : ℕ) → run lo hi i ≡ true → (lo ≤ i) × (i < hi)
 run_of lo hi i e = let p = (and-eq-true_iff (leb lo i) (ltb i hi)).0 e in (leb-true lo i p.0, ltb-true i hi p.1)
 
-pub run_step : (i hi : ℕ) (m : List ℕ) → i < hi → hi ≤ length m → stamp (run (i + 1) hi) 1 (set m i 1) ≡ stamp (run i hi) 1 m
-run_step i hi m a b =
-    ext_get_or 0 (stamp (run (i + 1) hi) 1 (set m i 1)) (stamp (run i hi) 1 m)
-    (length_stamp 0 (run (i + 1) hi) 1 (set m i 1) ∙ length-set m i 1 ∙ sym (length_stamp 0 (run i hi) 1 m))
-    (λ k h. at k (omega (arith, length_stamp 0 (run (i + 1) hi) 1 (set m i 1), length-set m i 1)))
+-- a part of the marks once v is stored in it
+filled_at : (lo n v : ℕ) (m : List ℕ) → lo + n ≤ length m → (k : ℕ) → k < length m
+    → get_or (put_mid lo n m (replicate n v)) k 0 ≡ cond (run lo (lo + n) k) v (get_or m k 0)
+filled_at lo n v m l k h = by_place (dec_lt k lo) (dec_lt k (lo + n))
   where
-    at : (k : ℕ) → k < length m → get_or (stamp (run (i + 1) hi) 1 (set m i 1)) k 0 ≡ get_or (stamp (run i hi) 1 m) k 0
-    at k h = get_or_stamp (run (i + 1) hi) 1 (set m i 1) k 0 (omega (arith, length-set m i 1)) ∙ go (ℕ_discrete k i) ∙ sym (get_or_stamp (run i hi) 1 m k 0 h)
-      where
-        cond_one : (t : Bool) → cond {A = ℕ} t 1 1 ≡ 1
-        cond_one true = refl
-        cond_one false = refl
+    rest : List ℕ
+    rest = drop n (drop lo m)
 
-        go : Dec (k ≡ i) → cond (run (i + 1) hi k) 1 (get_or (set m i 1) k 0) ≡ cond (run i hi k) 1 (get_or m k 0)
-        go (yes e) =
-            ap (λ (x : ℕ). cond (run (i + 1) hi k) 1 x) (ap (λ (j : ℕ). get_or (set m i 1) j 0) e ∙ get_or-set_same m i 1 0 (omega arith))
-            ∙ cond_one (run (i + 1) hi k) ∙ sym (ap (λ (t : Bool). cond t 1 (get_or m k 0)) (run_in i hi k (omega arith) (omega arith)))
-        go (no e) =
-            ap₂ (λ (t : Bool) (x : ℕ). cond t 1 x)
-            (bool_same (run (i + 1) hi k) (run i hi k)
-            (λ q. let r = run_of (i + 1) hi k q in run_in i hi k (omega arith) (omega arith))
-            (λ q. let r = run_of i hi k q in run_in (i + 1) hi k (omega arith) (omega arith)))
-            (get_or-set_other m i k 1 0 e)
+    j : ℕ
+    j = k - length (take lo m)
 
-pub run_end : (i hi : ℕ) (m : List ℕ) → hi ≤ i → stamp (run i hi) 1 m ≡ m
-run_end i hi m a = stamp_none (run i hi) 1 m (λ k h. bool_same (run i hi k) false (λ q. let r = run_of i hi k q in absurd (omega arith)) (λ q. absurd (false≢true q)))
+    front : length (take lo m) ≡ lo
+    front = length-take-le lo m (omega arith)
+
+    many : length (replicate {A = ℕ} n v) ≡ n
+    many = length-replicate n v
+
+    outside : (lo ≤ k → k < lo + n → ⊥) → get_or m k 0 ≡ cond (run lo (lo + n) k) v (get_or m k 0)
+    outside q =
+        ap (λ (t : Bool). cond t v (get_or m k 0))
+        (sym (bool_same (run lo (lo + n) k) false (λ r. let p = run_of lo (lo + n) k r in absurd (q p.0 p.1)) (λ r. absurd (false≢true r))))
+
+    by_place : Dec (k < lo) → Dec (k < lo + n) → get_or (take lo m ++ (replicate n v ++ rest)) k 0 ≡ cond (run lo (lo + n) k) v (get_or m k 0)
+    by_place (yes q) e =
+        get_or-append (take lo m) (replicate n v ++ rest) 0 k (omega (arith, front)) ∙ get_or-take lo m k 0 q ∙ outside (λ a b. absurd (omega arith))
+    by_place (no q) (yes e) =
+        get_or-append_right (take lo m) (replicate n v ++ rest) k 0 (omega (arith, front))
+        ∙ get_or-append (replicate n v) rest 0 j (omega (arith, front, many)) ∙ get_or-replicate n j v 0 (omega (arith, front))
+        ∙ ap (λ (t : Bool). cond t v (get_or m k 0)) (sym (run_in lo (lo + n) k (omega arith) e))
+    by_place (no q) (no e) =
+        get_or-append_right (take lo m) (replicate n v ++ rest) k 0 (omega (arith, front))
+        ∙ get_or-append_right (replicate n v) rest j 0 (omega (arith, front, many))
+        ∙ get_or-drop n (drop lo m) (j - length (replicate {A = ℕ} n v)) 0 ∙ get_or-drop lo m (n + (j - length (replicate {A = ℕ} n v))) 0
+        ∙ ap (λ (i : ℕ). get_or m i 0) (omega (arith, front, many)) ∙ outside (λ a b. absurd (omega arith))
+
+filled_long : (lo n v : ℕ) (m : List ℕ) → lo + n ≤ length m → length (put_mid lo n m (replicate n v)) ≡ length m
+filled_long lo n v m l =
+    same_len_mid lo n m (replicate n v) (length-replicate n v ∙ sym (length-take-le n (drop lo m) (omega (arith, length-drop lo m))))
+
+-- a part that is filled: as many as there were
+part_filled : (lo n v : ℕ) (m p : List ℕ) → lo + n ≤ length m → p ≡ replicate (length (take n (drop lo m))) v → p ≡ replicate n v
+part_filled lo n v m p l e = e ∙ ap (λ (k : ℕ). replicate {A = ℕ} k v) (length-take-le n (drop lo m) (omega (arith, length-drop lo m)))
+
+-- made stale
+pub run_marked : (lo n hi : ℕ) (m p : List ℕ) → lo + n ≡ hi → hi ≤ length m → p ≡ replicate (length (take n (drop lo m))) 1
+    → put_mid lo n m p ≡ stamp (run lo hi) 1 m
+run_marked lo n hi m p e l f =
+    ap (put_mid lo n m) (part_filled lo n 1 m p (omega arith) f)
+    ∙ ext_get_or 0 (put_mid lo n m (replicate n 1)) (stamp (run lo hi) 1 m)
+    (filled_long lo n 1 m (omega arith) ∙ sym (length_stamp 0 (run lo hi) 1 m))
+    (λ k h.
+    let b : k < length m = omega (arith, filled_long lo n 1 m (omega arith)) in
+    filled_at lo n 1 m (omega arith) k b ∙ ap (λ (j : ℕ). cond (run lo j k) 1 (get_or m k 0)) e ∙ sym (get_or_stamp (run lo hi) 1 m k 0 b))
+
+-- and no longer stale
+pub run_cleared : (b n n' : ℕ) (m p : List ℕ) → n' ≡ n → b + n ≤ length m → p ≡ replicate (length (take n' (drop b m))) 0
+    → put_mid b n' m p ≡ set_all (blocks_from b n) 0 m
+run_cleared b n n' m p e l f =
+    ap (put_mid b n' m) (part_filled b n' 0 m p (omega arith) f) ∙ ap (λ (k : ℕ). put_mid b k m (replicate k 0)) e
+    ∙ ext_get_or 0 (put_mid b n m (replicate n 0)) (set_all (blocks_from b n) 0 m)
+    (filled_long b n 0 m l ∙ sym (length_set_all (blocks_from b n) 0 m))
+    (λ k h.
+    let q : k < length m = omega (arith, filled_long b n 0 m l) in
+    filled_at b n 0 m l k q ∙ ap (λ (t : Bool). cond t 0 (get_or m k 0)) (bool_same (run b (b + n) k) (has (blocks_from b n) k) (there k) (back k))
+    ∙ sym (get_or_set_all (blocks_from b n) m k))
+  where
+    there : (k : ℕ) → run b (b + n) k ≡ true → has (blocks_from b n) k ≡ true
+    there k r =
+        let p = run_of b (b + n) k r in
+        let q : b + (k - b) ≡ k = omega (arith, p.0) in
+        ap (has (blocks_from b n)) (sym q) ∙ table_has n (λ j. b + j) (k - b) (omega (arith, p.1, p.0))
+
+    back : (k : ℕ) → has (blocks_from b n) k ≡ true → run b (b + n) k ≡ true
+    back k f = let q = has_table n (λ j. b + j) k f in run_in b (b + n) k (omega (arith, q.2)) (omega (arith, q.2, q.1))
+
+-- a run from the start
+pub run_start : (n : ℕ) (m : List ℕ) → n ≤ length m → stamp (run 0 n) 1 m ≡ replicate n 1 ++ drop n m
+run_start n m l =
+    sym (run_marked 0 n n m (replicate n 1) (omega arith) l (ap (λ (k : ℕ). replicate {A = ℕ} k 1) (sym (length-take-le n m l))))
 
 -- ---- a box
 
@@ -185,24 +240,3 @@ pub in_box : (w h s u d x y bx by : ℕ) → In w h bx by s s d u x y → (betwe
 in_box w h s u d x y bx by i =
     both (between_in (x - s) (x + s) bx (omega (arith, i.right)) (omega (arith, i.left)))
     (between_in (y - u) (y + d) by (omega (arith, i.below)) (omega (arith, i.above)))
-
--- a run from the start
-pub run_start : (n : ℕ) (m : List ℕ) → n ≤ length m → stamp (run 0 n) 1 m ≡ replicate n 1 ++ drop n m
-run_start n m l = ext_get_or 0 (stamp (run 0 n) 1 m) (replicate n 1 ++ drop n m) (length_stamp 0 (run 0 n) 1 m ∙ long) at
-  where
-    long : length m ≡ length (replicate n 1 ++ drop n m)
-    long = omega (arith, length-append (replicate n 1) (drop n m), length-replicate {A = ℕ} n 1, length-drop n m)
-
-    at : (k : ℕ) → k < length (stamp (run 0 n) 1 m) → get_or (stamp (run 0 n) 1 m) k 0 ≡ get_or (replicate n 1 ++ drop n m) k 0
-    at k h = get_or_stamp (run 0 n) 1 m k 0 (omega (arith, length_stamp 0 (run 0 n) 1 m)) ∙ by_place (dec_lt k n)
-      where
-        by_place : Dec (k < n) → cond (run 0 n k) 1 (get_or m k 0) ≡ get_or (replicate n 1 ++ drop n m) k 0
-        by_place (yes q) =
-            ap (λ (t : Bool). cond t 1 (get_or m k 0)) (run_in 0 n k (omega arith) q)
-            ∙ sym (get_or-append (replicate n 1) (drop n m) 0 k (omega (arith, length-replicate {A = ℕ} n 1)) ∙ get_or-replicate n k 1 0 q)
-        by_place (no q) =
-            let e : length (replicate {A = ℕ} n 1) + (k - n) ≡ k = omega (arith, length-replicate {A = ℕ} n 1) in
-            let f : n + (k - n) ≡ k = omega arith in
-            ap (λ (t : Bool). cond t 1 (get_or m k 0)) (bool_same (run 0 n k) false (λ r. absurd (q (run_of 0 n k r).1)) (λ r. absurd (false≢true r)))
-            ∙ sym (ap (λ (j : ℕ). get_or (replicate n 1 ++ drop n m) j 0) (sym e) ∙ get_or-append-add (replicate n 1) (drop n m) (k - n) 0
-            ∙ get_or-drop n m (k - n) 0 ∙ ap (λ (j : ℕ). get_or m j 0) f)

@@ -1,21 +1,28 @@
 -- Counts of marks, the first stale blocks of a run, and runs of stale blocks, one turn of a loop after the other. Assumes nothing.
 use mathlib.Core.Path.{◌≡◌, refl, sym, ap, ap₂, ◌∙◌}
-use mathlib.Core.Bool.{Bool, true, false}
+use mathlib.Core.Bool.{Bool, true, false, false≢true}
 use mathlib.Core.List.{List, [], ◌∷◌, ◌++◌, map}
-use Prim.Native.Nat.{ℕ, suc, ◌+◌, ◌-◌, ◌≤◌, ◌<◌}
+use Prim.Native.Nat.{ℕ, zero, suc, ◌+◌, ◌-◌, ◌*◌, ◌≤◌, ◌<◌}
+use native.Mathlib.Nat.{mul-zero, mul-suc, mul-add, mul_comm, not-suc-le-zero, le_of_suc-le-suc}
 use native.Mathlib.Numerals.{add-one}
+use native.Mathlib.Decide.{dec_lt}
 use native.Mathlib.Omega.{arith}
 use lib.Dec.{eqb}
-use lib.ListN.{length, get_or, set, take, drop, replicate, length-map, replicate-append-replicate, get_or-map}
-use lib.Seq.{drop-set-lt, take-set-lt, slice, slice_empty, slice-cons, length-slice, get_or-drop, get_or-take}
+use lib.ListN.{length, get_or, set, take, drop, replicate, take-append-drop, length-map, length-drop, length-replicate, get_or-map, get_or-replicate}
+use lib.Seq.{drop-set-lt, take-set-lt, slice, slice_empty, slice-cons, length-slice, length-take-le, ext_get_or, get_or-drop, get_or-take, drop-drop}
+use Rattle.std.specs.Int.{from_bool}
+use Rattle.std.specs.List.{prefix_len}
+use Rattle.std.proofs.lemmas.List.Sums.{prefix_len_passes, prefix_len_stops, prefix_len-le-length}
+use Rattle.std.specs.Simd.{first_chunks}
+use Rattle.std.proofs.lemmas.Slice.{between_is}
 use borrow.Author.Tests.{eqb-true, not-false}
 use Rattle.picture.specs.Fill.{get_or_any}
 use Rattle.machine.specs.Lists.{set_all, count, first_from}
 use Rattle.machine.specs.Calls.{is_stale}
 use Rattle.machine.proofs.Lists.{Below, first_from_below, first_from_append, first_from_length, first_none}
-use Rattle.machine.proofs.Lists.{count_le, count_append, slice_split, map-append, none_true, set_all_two, table_snoc}
+use Rattle.machine.proofs.Lists.{count_le, count_append, slice_split, map-append, none_true}
 use Rattle.machine.proofs.Ends.{is_stale_lem}
-use Rattle.marks.specs.Marks.{stale_in, chosen, blocks_from}
+use Rattle.marks.specs.Marks.{stale_in, chosen, StaleRun}
 
 -- ---- a count
 
@@ -36,11 +43,75 @@ stale_one i j m q l =
 pub count_one : (i j : ℕ) (m : List ℕ) → j ≡ i + 1 → i < length m → count (stale_in i j m) ≡ count (is_stale (get_or m i 0) ∷ [])
 count_one i j m q l = ap count (stale_one i j m q l)
 
-pub count_none : (i : ℕ) (m : List ℕ) → count (stale_in i i m) ≡ 0
-count_none i m = ap (λ (l : List ℕ). count (map is_stale l)) (slice_empty i m)
-
 pub length_stale : (i j : ℕ) (m : List ℕ) → j ≤ length m → length (stale_in i j m) ≡ j - i
 length_stale i j m h = length-map (slice i j m) is_stale ∙ length-slice i j m h
+
+-- a run of blocks, and one more
+pub count_more : (lo i : ℕ) (m : List ℕ) → lo ≤ i → i < length m → count (stale_in lo (i + 1) m) ≡ count (stale_in lo i m) + from_bool (is_stale (get_or m i 0))
+count_more lo i m a l =
+    count_split lo i (i + 1) m a (omega arith)
+    ∙ ap (λ (c : ℕ). count (stale_in lo i m) + c) (count_one i (i + 1) m refl l ∙ by_test (is_stale (get_or m i 0)))
+  where
+    by_test : (t : Bool) → count (t ∷ []) ≡ from_bool t
+    by_test true = refl
+    by_test false = refl
+
+pub count_next : (i : ℕ) (m : List ℕ) → i < length m → count (map is_stale (take (i + 1) m)) ≡ count (map is_stale (take i m)) + from_bool (is_stale (get_or m i 0))
+count_next i m l = count_more 0 i m (omega arith) l
+
+pub one_few : (t : Bool) → from_bool t ≤ 1
+one_few true = omega arith
+one_few false = omega arith
+
+-- piece i of a list cut into pieces of n
+pub piece : (n k i : ℕ) (m d : List ℕ) → i < k → get_or (first_chunks n k m) i d ≡ take n (drop (n * i) m)
+piece n zero i m d l = absurd (not-suc-le-zero l)
+piece n (suc k) zero m d l = ap (λ (j : ℕ). take n (drop j m)) (sym (mul-zero n))
+piece n (suc k) (suc i) m d l =
+    piece n k i (drop n m) d (le_of_suc-le-suc l)
+    ∙ ap (take n) (drop-drop (n * i) n m) ∙ ap (λ (j : ℕ). take n (drop j m)) (omega (arith, mul-suc n i))
+
+-- the first i pieces, and one more
+count_piece : (n i : ℕ) (m : List ℕ) → count (map is_stale (take (n * (i + 1)) m)) ≡ count (map is_stale (take (n * i) m)) + count (map is_stale (take n (drop (n * i) m)))
+count_piece n i m =
+    let e : n * (i + 1) ≡ n * i + n = omega (arith, mul-add n i 1) in
+    let d : n * (i + 1) - n * i ≡ n = omega (arith, e) in
+    count_split 0 (n * i) (n * (i + 1)) m (omega arith) (omega (arith, e))
+    ∙ ap (λ (l : List ℕ). count (map is_stale (take (n * i) m)) + count (map is_stale l))
+    (sym (between_is m (n * i) (n * (i + 1))) ∙ ap (λ (j : ℕ). take j (drop (n * i) m)) d)
+
+count_rest : (i : ℕ) (m : List ℕ) → count (map is_stale m) ≡ count (map is_stale (take i m)) + count (map is_stale (drop i m))
+count_rest i m =
+    ap (λ (l : List ℕ). count (map is_stale l)) (sym (take-append-drop i m)) ∙ ap count (map-append is_stale (take i m) (drop i m))
+    ∙ count_append (map is_stale (take i m)) (map is_stale (drop i m))
+
+-- a run counted piece by piece: c in the first i pieces, d in the next one or in what is left
+module _ (lo hi : ℕ) (m : List ℕ) (l : lo ≤ hi) (h : hi ≤ length m) (n k i : ℕ) (c d : ℕ) where
+  abbrev part : List ℕ
+  part = take (hi - lo) (drop lo m)
+
+  abbrev Counted : Type 0
+  Counted = c ≡ count (map is_stale (take (n * i) part))
+
+  whole : count (map is_stale part) ≡ count (stale_in lo hi m)
+  whole = ap (λ (l : List ℕ). count (map is_stale l)) (between_is m lo hi)
+
+  pub piece_more : (pieces : List (List ℕ)) → pieces ≡ first_chunks n k part → length pieces ≡ k → i < length pieces → Counted
+      → d ≡ count (map is_stale (get_or pieces i [])) → c + d ≡ count (map is_stale (take (n * (i + 1)) part))
+  piece_more pieces q f u e g =
+      ap₂ ◌+◌ e (g ∙ ap (λ (p : List ℕ). count (map is_stale p)) (ap (λ (r : List (List ℕ)). get_or r i []) q ∙ piece n k i part [] (omega arith)))
+      ∙ sym (count_piece n i part)
+
+  pub pieces_few : (j : ℕ) → c + d ≡ count (map is_stale (take j part)) → c + d ≤ hi - lo
+  pieces_few j e = omega (arith, e, count_rest j part, whole, length_stale lo hi m h, count_le (stale_in lo hi m))
+
+  pub piece_last : (rest : List ℕ) → i ≡ k → rest ≡ drop (k * n) part → Counted → d ≡ count (map is_stale rest) → c + d ≡ count (stale_in lo hi m)
+  piece_last rest q r e g =
+      ap₂ ◌+◌ e (g ∙ ap (λ (p : List ℕ). count (map is_stale p)) r ∙ ap (λ (j : ℕ). count (map is_stale (drop j part))) (ap (λ (j : ℕ). j * n) (sym q) ∙ mul_comm i n))
+      ∙ sym (count_rest (n * i) part) ∙ whole
+
+pub count_none : (i : ℕ) (m : List ℕ) → count (stale_in i i m) ≡ 0
+count_none i m = ap (λ (l : List ℕ). count (map is_stale l)) (slice_empty i m)
 
 -- a run has no more stale blocks than blocks
 pub count_run_le : (i j : ℕ) (m : List ℕ) → j ≤ length m → count (stale_in i j m) ≤ j - i
@@ -75,18 +146,6 @@ chosen_split i j k n m a b l =
     ap (first_from i n) (stale_split i j k m a b) ∙ first_from_append i n (stale_in i j m) (stale_in j k m)
     ∙ ap₂ (λ (c : ℕ) (l : List ℕ). bs ++ first_from c (n - length bs) (map is_stale l)) e (sym (slice_set_all j k bs m low b))
 
--- k stale blocks side by side: the first, and one more
-pub run_first : (i : ℕ) (m : List ℕ) → i < length m → (get_or m i 0 ≡ 0 → ⊥) → stale_in i (i + 1) m ≡ replicate 1 true
-run_first i m l e = stale_one i (i + 1) m refl l ∙ ap {B = List Bool} (λ t. t ∷ []) (is_stale_lem (get_or m i 0) e)
-
-pub run_more : (i k : ℕ) (m : List ℕ) → stale_in i (i + k) m ≡ replicate k true → i + k < length m → is_stale (get_or m (i + k) 0) ≡ true
-    → stale_in i (i + (k + 1)) m ≡ replicate (k + 1) true
-run_more i k m e l t =
-    let q : i + (k + 1) ≡ i + k + 1 = omega arith in
-    stale_split i (i + k) (i + (k + 1)) m (omega arith) (omega arith)
-    ∙ ap₂ {C = List Bool} ◌++◌ e (stale_one (i + k) (i + (k + 1)) m q l ∙ ap {B = List Bool} (λ t. t ∷ []) t)
-    ∙ replicate-append-replicate k 1 true
-
 pub none_wanted : (i k n d : ℕ) (m : List ℕ) → n ≤ d → chosen i k (n - d) m ≡ []
 none_wanted i k n d m h = ap (λ (j : ℕ). first_from i j (stale_in i k m)) zero_left ∙ first_none i (stale_in i k m)
   where
@@ -103,13 +162,6 @@ none_stale i j n m e = empty (chosen i j n m) (omega (arith, first_from_length i
     empty : (l : List ℕ) → length l ≡ 0 → l ≡ []
     empty [] q = refl
     empty (x ∷ l) q = absurd (omega arith)
-
--- ---- blocks cleared: one more of a run
-
-pub clear_more : (b i : ℕ) (m₀ m : List ℕ) → m ≡ set_all (blocks_from b i) 0 m₀ → set m (b + i) 0 ≡ set_all (blocks_from b (i + 1)) 0 m₀
-clear_more b i m₀ m e =
-    ap (λ (l : List ℕ). set l (b + i) 0) e ∙ sym (set_all_two (blocks_from b i) ((b + i) ∷ []) 0 m₀)
-    ∙ ap (λ (bs : List ℕ). set_all bs 0 m₀) (sym (table_snoc i (λ j. b + j)) ∙ ap (blocks_from b) (sym (add-one i)))
 
 -- ---- single marks
 
@@ -129,3 +181,43 @@ none_clear lo hi m e h b l u =
     ap (λ (i : ℕ). get_or m i 0) (sym q)
     ∙ fresh (get_or m (lo + j) 0)
     (sym (stale_at lo hi j m (omega arith)) ∙ get_or_any (stale_in lo hi m) j false true n ∙ none_true (stale_in lo hi m) e j n)
+
+-- ---- stale blocks side by side: those at the front of a part, the first of which is stale
+
+pub run_of_front : (i most : ℕ) (m : List ℕ) → i + most ≤ length m → 0 < most → (get_or m i 0 ≡ 0 → ⊥)
+    → StaleRun i most m (prefix_len is_stale (take most (drop i m)))
+run_of_front i most m l some first = record {
+  some = begun (dec_lt 0 r);
+  few = few;
+  all_stale =
+      ext_get_or false (stale_in i (i + r) m) (replicate r true) (long ∙ sym (length-replicate r true))
+      (λ k h.
+      let q : k < r = omega (arith, long) in
+      stale_at i (i + r) k m (omega arith) ∙ ap is_stale (sym (at k (omega (arith, few))))
+      ∙ prefix_len_passes is_stale part k 0 q ∙ sym (get_or-replicate r k true false q));
+}
+  where
+    part : List ℕ
+    part = take most (drop i m)
+
+    r : ℕ
+    r = prefix_len is_stale part
+
+    parts : length part ≡ most
+    parts = length-take-le most (drop i m) (omega (arith, length-drop i m))
+
+    few : r ≤ most
+    few = omega (arith, parts, prefix_len-le-length is_stale part)
+
+    long : length (stale_in i (i + r) m) ≡ r
+    long = omega (arith, length_stale i (i + r) m (omega (arith, few)))
+
+    at : (k : ℕ) → k < most → get_or part k 0 ≡ get_or m (i + k) 0
+    at k h = get_or-take most (drop i m) k 0 h ∙ get_or-drop i m k 0
+
+    begun : Dec (0 < r) → 0 < r
+    begun (yes q) = q
+    begun (no q) =
+        let e : r ≡ 0 = omega arith in
+        let z : get_or part r 0 ≡ get_or m i 0 = ap (λ (k : ℕ). get_or part k 0) e ∙ at 0 some ∙ ap (λ (k : ℕ). get_or m k 0) (omega arith) in
+        absurd (false≢true (sym (prefix_len_stops is_stale part 0 (omega (arith, parts))) ∙ is_stale_lem (get_or part r 0) (λ f. first (sym z ∙ f))))

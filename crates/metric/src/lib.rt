@@ -2,7 +2,7 @@
 // pass makes of them. Each operation is rounded once, in the order in which the source writes it.
 #![tactic(auto)]
 
-ghost use Rattle.std.specs.Prelude.{◌≡◌, cond, ◌%◌, ◌^◌, ◌≤◌, eqb};
+ghost use Rattle.std.specs.Prelude.{◌≡◌, ◌%◌, ◌^◌, ◌≤◌, eqb};
 ghost use Rattle.channels.specs.Channels.{red_of, green_of, blue_of};
 ghost use Rattle.metric.specs.Distance.{norm, distance_of};
 ghost use Rattle.metric.specs.Metric.{metric_of};
@@ -19,11 +19,10 @@ struct Rgb {
 
 // n as f32 / 255.0, by the pattern of 2^23 + n: the machine's conversion keeps a part of its register,
 // so that each distance would wait for the one before.
-fn norm_of(n: u32) -> f32
-    requires { n ≤ 255 }
+fn norm_of(n: u8) -> f32
     ensures { result ≡ norm n }
 {
-    (f32::from_bits(0x4B000000 + n) - 8388608.0) / 255.0
+    (f32::from_bits(0x4B000000 + n as u32) - 8388608.0) / 255.0
 }
 
 fn unpack_norm(c: u32) -> Rgb
@@ -74,12 +73,6 @@ pub struct Metric {
     pub t: f32,
     pub tr: f32,
     pub r: f32,
-}
-
-fn pick(first: bool, a: u32, b: u32) -> u32
-    ensures { result ≡ cond first a b }
-{
-    if first { a } else { b }
 }
 
 // The distance of c and q, where d is that of c and o.
@@ -136,11 +129,15 @@ pub fn metric_of(c: u32, tl: u32, t: u32, tr: u32, r: u32, k: Known) -> Measured
     }
     // A page has few colours: the neighbours that differ from c are mostly one word, and its root serves for all of them, and for the
     // next pixel too where that has the same two words.
-    let o = pick(
-        same(c, tl),
-        pick(same(c, t), pick(same(c, tr), r, tr), t),
-        tl,
-    );
+    let o = if !same(c, tl) {
+        tl
+    } else if !same(c, t) {
+        t
+    } else if !same(c, tr) {
+        tr
+    } else {
+        r
+    };
     let d = distance_after(k, c, o);
     let metric = Metric {
         tl: distance_by(c, tl, o, d),
@@ -154,11 +151,26 @@ pub fn metric_of(c: u32, tl: u32, t: u32, tr: u32, r: u32, k: Known) -> Measured
     }
 }
 
-// The source's [f32; 2].
+// What lies around a pixel, and its own, c: top-left, top, top-right, left, right, bottom-left, bottom and bottom-right of it.
+#[derive(Clone, Copy)]
+pub struct Around<T> {
+    pub tl: T,
+    pub t: T,
+    pub tr: T,
+    pub l: T,
+    pub c: T,
+    pub r: T,
+    pub bl: T,
+    pub b: T,
+    pub br: T,
+}
+
+// The source's [f32; 2]; no array, since the definitions `number_of` and `condition_of` name the two.
 #[derive(Clone, Copy)]
 pub struct Pair(pub f32, pub f32);
 
-// A pixel's weights: its corners top-left, top-right, bottom-right and bottom-left. The crate `weight` has what they are.
+// A pixel's weights: its corners top-left, top-right, bottom-right and bottom-left. The crate `weight` has what they are. No array, since
+// definitions and theorems name the four.
 #[derive(Clone, Copy)]
 pub struct Weights {
     pub w0: f32,

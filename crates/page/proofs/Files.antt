@@ -11,10 +11,13 @@ use lib.Seq.{set_split}
 use borrow.Author.Tests.{lt-ltb, le-ltb, eq-eqb, ne_eqb, eqb-true, eqb-false, ltb-false, not-false}
 use Rattle.picture.proofs.Bools.{or_left, or_right, or_none}
 use Rattle.picture.specs.Fill.{put}
+use Rattle.picture.specs.declared.refusal.Refusal.{Refusal}
+use Rattle.picture.specs.declared.refusal.Refusal.TheVariants as Refused
+use Rattle.picture.specs.Answer.{number_of}
 use Rattle.picture.specs.Refusal.{none, side, picture, trailer}
 use Rattle.page.specs.Page.{width, height, back, mark, page, same, bad_trailer, broken, wide, words_from, pixels, read_refusal, beside, read_of, picture_of, Reads}
 use Rattle.page.specs.Claims.{WholeFile}
-use Rattle.page.specs.declared.PageRead.{PageRead}
+use Rattle.page.specs.Page.{PageRead}
 
 -- one element stored
 pub set_put : (l : List ℕ) (i v : ℕ) → i < length l → set l i v ≡ put i (v ∷ []) l
@@ -123,6 +126,26 @@ module _ (f : List ℕ) (room : ℕ) (r : PageRead) (e : r ≡ read_of f room) w
 
 pub whole_file : WholeFile
 whole_file = record { first_byte = first_byte; all_of_it = all_of_it }
+
+-- no refusal has the number of none
+pub numbered : (e : Refusal) → number_of e ≡ none → ⊥
+numbered Refused.Side z = absurd (eqb-false (number_of Refused.Side) none refl z)
+numbered Refused.Picture z = absurd (eqb-false (number_of Refused.Picture) none refl z)
+numbered Refused.Output z = absurd (eqb-false (number_of Refused.Output) none refl z)
+numbered Refused.Scratch z = absurd (eqb-false (number_of Refused.Scratch) none refl z)
+numbered Refused.Outside z = absurd (eqb-false (number_of Refused.Outside) none refl z)
+numbered Refused.Operand z = absurd (eqb-false (number_of Refused.Operand) none refl z)
+numbered Refused.Stale z = absurd (eqb-false (number_of Refused.Stale) none refl z)
+numbered Refused.Trailer z = absurd (eqb-false (number_of Refused.Trailer) none refl z)
+numbered Refused.Long z = absurd (eqb-false (number_of Refused.Long) none refl z)
+numbered Refused.Lock z = absurd (eqb-false (number_of Refused.Lock) none refl z)
+numbered Refused.Locked z = absurd (eqb-false (number_of Refused.Locked) none refl z)
+numbered Refused.Items z = absurd (eqb-false (number_of Refused.Items) none refl z)
+numbered Refused.Clarity z = absurd (eqb-false (number_of Refused.Clarity) none refl z)
+numbered Refused.Palette z = absurd (eqb-false (number_of Refused.Palette) none refl z)
+numbered Refused.Register z = absurd (eqb-false (number_of Refused.Register) none refl z)
+numbered Refused.Range z = absurd (eqb-false (number_of Refused.Range) none refl z)
+numbered Refused.Order z = absurd (eqb-false (number_of Refused.Order) none refl z)
 
 module _ (f before : List ℕ) (r : PageRead) (e : r ≡ read_of f (length before)) where
   -- on a refusal the buffer is as it was

@@ -12,7 +12,11 @@ use borrow.Author.Tests.{lt-ltb, le-ltb, eq-eqb, ne_eqb, eqb-true, eqb-false}
 use Rattle.picture.proofs.Bools.{or_left, or_right}
 use Rattle.picture.specs.Refusal.{none, trailer}
 use Rattle.page.specs.Page.{little_endian, part, width, height, back, mark, page, same, bad_trailer, trailer_of}
-use Rattle.page.specs.declared.Trailer.{Trailer}
+use Rattle.std.specs.Prelude.{None, Some}
+use Rattle.std.specs.Int.{w16, w32, from_le_bytes}
+use Rattle.page.specs.declared.Trailer.{Trailer as Found}
+use Rattle.page.specs.Page.{Trailer}
+use Rattle.page.specs.Answers.{trailer_answer}
 
 part_none : (i : ℕ) (f : List ℕ) → part i 0 f ≡ []
 unfolding part
@@ -38,10 +42,19 @@ four i f h =
 pub half_of : (i : ℕ) (f : List ℕ) → i + 2 ≤ length f → little_endian (part i 2 f) ≡ get_or f i 0 + 256 * get_or f (i + 1) 0
 half_of i f h = rw two (omega arith)
 
-pub word_of : (i : ℕ) (f : List ℕ) → i + 4 ≤ length f → little_endian (part i 4 f) ≡ little_endian (part i 2 f) + 65536 * little_endian (part (i + 2) 2 f)
+pub word_of : (i : ℕ) (f : List ℕ) → i + 4 ≤ length f
+    → little_endian (part i 4 f) ≡ get_or f i 0 + 256 * get_or f (i + 1) 0 + 65536 * (get_or f (i + 2) 0 + 256 * get_or f (i + 3) 0)
 word_of i f h =
-    let t : i + 2 ≤ length f = omega arith in
-    rw (four, two i f) (omega arith)
+    let q : i + 2 + 1 ≡ i + 3 = omega arith in
+    let t : i + 2 + 2 ≤ length f = omega arith in
+    rw (four, two (i + 2) f, q) (omega arith)
+
+-- the library's reading of bytes, the low one first
+pub half_bytes : (a b : ℕ) → from_le_bytes w16 (a ∷ b ∷ []) ≡ a + 256 * b
+half_bytes a b = omega arith
+
+pub word_bytes : (a b c d : ℕ) → from_le_bytes w32 (a ∷ b ∷ c ∷ d ∷ []) ≡ a + 256 * b + 65536 * (c + 256 * d)
+word_bytes a b c d = omega arith
 
 -- a page's mark, byte by byte and as a number
 same_number : (s t : List ℕ) → same s t ≡ true → little_endian s ≡ little_endian t
@@ -98,34 +111,34 @@ module _ (f : List ℕ) where
     is_right e b = rw b e
 
 -- what a trailer that is not bad says
-pub record Says (f : List ℕ) (r : Trailer) : Type 0 where
+pub record Says (f : List ℕ) (t : Found) : Type 0 where
   pub right_now : bad_trailer f ≡ false
-  pub w_now : r.w ≡ width f
-  pub h_now : r.h ≡ height f
-  pub back_now : r.back ≡ back f
+  pub w_now : t.w ≡ width f
+  pub h_now : t.h ≡ height f
+  pub back_now : t.back ≡ back f
 
-module _ (f : List ℕ) (r : Trailer) (e : r ≡ trailer_of f) where
-  refusal_now : r.refusal ≡ cond (bad_trailer f) trailer none
-  unfolding trailer_of
-  refusal_now = ap (λ (q : Trailer). q.refusal) e
+-- the number by itself
+number_of_trailer : (f : List ℕ) (r : Trailer) → r ≡ trailer_of f → r.refusal ≡ cond (bad_trailer f) trailer none
+unfolding trailer_of
+number_of_trailer f r e = ap (λ (q : Trailer). q.refusal) e
 
-  pub says_bad : (r.refusal ≡ none → ⊥) → (bad_trailer f ≡ true) × (r.refusal ≡ trailer)
-  says_bad h = go (bad_trailer f) refl
-    where
-      go : (b : Bool) → bad_trailer f ≡ b → (bad_trailer f ≡ true) × (r.refusal ≡ trailer)
-      go true q = (q, refusal_now ∙ rw q)
-      go false q = absurd (h (refusal_now ∙ rw q))
+pub says_bad : (f : List ℕ) → trailer_answer None ≡ trailer_of f → bad_trailer f ≡ true
+says_bad f e = go (bad_trailer f) refl
+  where
+    go : (b : Bool) → bad_trailer f ≡ b → bad_trailer f ≡ true
+    go true q = q
+    go false q = absurd (eqb-false trailer none refl (number_of_trailer f _ e ∙ rw q))
 
-  pub says_right : r.refusal ≡ none → Says f r
-  unfolding trailer_of
-  says_right z = go (bad_trailer f) refl
-    where
-      go : (b : Bool) → bad_trailer f ≡ b → Says f r
-      go true q = absurd (eqb-false trailer none refl (sym (refusal_now ∙ rw q) ∙ z))
-      go false q =
-          record {
-            right_now = q;
-            w_now = ap (λ (q : Trailer). q.w) e ∙ rw q;
-            h_now = ap (λ (q : Trailer). q.h) e ∙ rw q;
-            back_now = ap (λ (q : Trailer). q.back) e ∙ rw q;
-          }
+pub says_right : (f : List ℕ) (t : Found) → trailer_answer (Some t) ≡ trailer_of f → Says f t
+unfolding trailer_of
+says_right f t e = go (bad_trailer f) refl
+  where
+    go : (b : Bool) → bad_trailer f ≡ b → Says f t
+    go true q = absurd (eqb-false trailer none refl (sym (number_of_trailer f _ e ∙ rw q)))
+    go false q =
+        record {
+          right_now = q;
+          w_now = ap (λ (r : Trailer). r.w) e ∙ rw q;
+          h_now = ap (λ (r : Trailer). r.h) e ∙ rw q;
+          back_now = ap (λ (r : Trailer). r.back) e ∙ rw q;
+        }

@@ -1,7 +1,7 @@
 -- What holds of a page that the reader takes: it is all of its file, from the first byte on. Definitions only; `proofs/Files.antt` proves it.
 use Rattle.std.specs.Prelude.{◌≡◌, List, ℕ, ◌+◌, ◌*◌, ◌≤◌, length}
 use Rattle.picture.specs.Refusal.{none}
-use Rattle.page.specs.declared.PageRead.{PageRead}
+use Rattle.page.specs.Page.{PageRead}
 use Rattle.page.specs.Page.{width, height, pixels, words_from, read_refusal, read_of}
 
 pub record WholeFile : Type 0 where

@@ -1,3 +1,4 @@
 pub mod Page
+pub mod Answers
 pub mod Examples
 pub mod Claims

@@ -2,8 +2,19 @@
 use Rattle.std.specs.Prelude.{Bool, true, false, cond, not, ◌&&◌, ◌||◌, List, [], ◌∷◌, ◌≡◌, ℕ, ◌+◌, ◌-◌, ◌*◌, eqb, ltb, length, take, drop}
 use Rattle.picture.specs.Fill.{put, flat}
 use Rattle.picture.specs.Refusal.{none, side, picture, trailer}
-use Rattle.page.specs.declared.PageRead.{PageRead}
-use Rattle.page.specs.declared.Trailer.{Trailer}
+
+-- what reading a page answers: the refusal's number or 0, and the page's sides, 0 beside a refusal
+pub record PageRead : Type 0 where
+  pub refusal : ℕ
+  pub w : ℕ
+  pub h : ℕ
+
+-- what a file's last twelve bytes say: refusal 8 or 0, and the page's sides and back, 0 beside a refusal
+pub record Trailer : Type 0 where
+  pub refusal : ℕ
+  pub w : ℕ
+  pub h : ℕ
+  pub back : ℕ
 
 -- the number that bytes hold, the lowest byte first
 abbrev pub little_endian : List ℕ → ℕ

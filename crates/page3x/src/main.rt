@@ -14,7 +14,8 @@ fn say_where(rt: &HostRuntime) {
     }
 }
 
-// Reads until the buffer is full or the input ends, and answers how many bytes of the buffer were read.
+// Reads until the buffer is full or the input ends, and answers how many bytes of the buffer were read. A loop of its own, since
+// `read_exact` refuses a shorter input and `read_to_end` takes an allocator.
 fn read_full(input: &mut impl Read, buffer: &mut [u8]) -> io::Result<usize>
     ensures { IfOk result (λ n. n ≤ length buffer.new) }
 {

@@ -1,28 +1,25 @@
 // Page files at the edges: what the reader answers and leaves in a buffer of four words that held 7, then the text and its length.
 #![tactic(auto)]
 
+use page::PageRead;
+use picture::refusal;
 use std::io;
 
-// A number and what stands after it.
-fn number(rt: &impl Print, n: u32, after: &str) -> io::Result<()> {
-    print!(rt; "{n}{after}")
-}
-
-fn word(rt: &impl Print, n: u32) -> io::Result<()> {
-    print!(rt; " {n:08x}")
-}
+// The sides that are printed beside a refusal.
+const NO_PAGE: PageRead = PageRead { w: 0, h: 0 };
 
 // The reader's answer, and the buffer's words.
 fn read(rt: &impl Print, file: &[u8]) -> io::Result<()> {
     let mut picture = [7u32; 4];
-    let page = page::read_page(file, &mut picture);
-    number(rt, page.refusal, " ")?;
-    number(rt, page.w, " ")?;
-    number(rt, page.h, "")?;
-    word(rt, picture[0])?;
-    word(rt, picture[1])?;
-    word(rt, picture[2])?;
-    word(rt, picture[3])?;
+    let answer = page::read_page(file, &mut picture);
+    let number = refusal::number(&answer);
+    let page = answer.unwrap_or(NO_PAGE);
+    let w = page.w;
+    let h = page.h;
+    print!(rt; "{number} {w} {h}")?;
+    for word in picture {
+        print!(rt; " {word:08x}")?;
+    }
     rt.println("")
 }
 
@@ -44,18 +41,13 @@ fn show(rt: &impl Print, file: &[u8]) -> io::Result<()> {
     print(rt, file)
 }
 
-// 4,108 bytes that end with the trailer of w by h pixels, back given as its low byte and the next, and `lead` bytes before
-// them.
-fn longest(rt: &impl Print, lead: usize, w: u8, h: u8, low: u8, next: u8) -> io::Result<()> {
+// 4,108 bytes that end with the trailer of w by h pixels and this back, and `lead` bytes before them.
+fn longest(rt: &impl Print, lead: usize, w: u8, h: u8, back: u16) -> io::Result<()> {
     let mut file = [0u8; 4112];
     file[4100] = w;
     file[4102] = h;
-    file[4104] = low;
-    file[4105] = next;
-    file[4108] = 0x50;
-    file[4109] = 0x41;
-    file[4110] = 0x47;
-    file[4111] = 0x45;
+    file[4104..4106].copy_from_slice(&back.to_le_bytes());
+    file[4108..].copy_from_slice(b"PAGE");
     if lead < 4 {
         print(rt, &file[4 - lead..])?;
     }
@@ -105,8 +97,8 @@ fn main(rt: HostRuntime) -> io::Result<()> {
     show(&rt, b"\x01\x08\x00\x00\x0c\x00\x00\x00PAGE")?;
     show(&rt, b"a\x01\x08\x00\x00\x0c\x00\x00\x00PAGE")?;
     // 4,108 bytes, and 4,109: with the trailer of 32 by 32 pixels, a page of 4,108, and of 30 by 34, a page of 4,092.
-    longest(&rt, 0, 32, 32, 0x0c, 0x10)?;
-    longest(&rt, 1, 32, 32, 0x0c, 0x10)?;
-    longest(&rt, 0, 30, 34, 0xfc, 0x0f)?;
-    longest(&rt, 1, 30, 34, 0xfc, 0x0f)
+    longest(&rt, 0, 32, 32, 0x100c)?;
+    longest(&rt, 1, 32, 32, 0x100c)?;
+    longest(&rt, 0, 30, 34, 0x0ffc)?;
+    longest(&rt, 1, 30, 34, 0x0ffc)
 }

@@ -5,7 +5,7 @@ use mathlib.Core.List.{List, [], ◌∷◌, ◌++◌, append-nil}
 use Prim.Native.Nat.{ℕ, zero, suc, ◌+◌, ◌-◌, ◌≤◌, ◌<◌}
 use native.Mathlib.Numerals.{add-one}
 use native.Mathlib.Omega.{arith}
-use lib.ListN.{length, get_or, take, drop, replicate, drop_of_length-le, length-append, length-set, length-take, length-replicate}
+use lib.ListN.{length, get_or, take, drop, replicate, length-append, length-set, length-take, length-replicate}
 use lib.Seq.{take-suc, take-suc-set, take-length, drop-cons, get_or-take}
 use borrow.Author.Tests.{le-ltb}
 use Rattle.paints.specs.declared.Paint.{Paint}
@@ -49,5 +49,7 @@ next_item a n i d l k =
     ∙ ap (λ (p : Paint). p ∷ drop (suc i) t) (get_or-take n a i d l)
     ∙ ap (λ (j : ℕ). get_or a i d ∷ drop j t) (sym (add-one i))
 
-pub no_item : (a : List Paint) (n i : ℕ) → n ≤ i → drop i (take n a) ≡ []
-no_item a n i l = drop_of_length-le (take n a) {i = i} (simp length-take (omega arith))
+-- ---- a list from item i on: item i, and then those behind it
+
+pub turn : (items : List Paint) (i : ℕ) → i < length items → drop i items ≡ get_or items i blank ∷ drop (i + 1) items
+turn items i l = drop-cons items i blank l ∙ ap (λ (k : ℕ). get_or items i blank ∷ drop k items) (sym (add-one i))

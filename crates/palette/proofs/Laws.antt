@@ -42,42 +42,31 @@ nearer_left : (word best entry : ℕ) → nearness_of best word ≤ nearness_of 
 unfolding nearer
 nearer_left word best entry h = rw (le-ltb (nearness_of entry word) (nearness_of best word) h)
 
--- the loop has looked at i entries: best is the nearest of them, and least its N
-pub record Searched (l : List ℕ) (word best least i : ℕ) : Type 0 where
-  pub inside : i ≤ length l
-  pub is : nearest_after word best (drop i l) ≡ nearest_of l word
+-- the loop has looked at i of the entries after the first: best is the nearest of all so far, and least its N
+pub record Searched (all rest : List ℕ) (word best least i : ℕ) : Type 0 where
+  pub is : nearest_after word best (drop i rest) ≡ nearest_of all word
   pub least_is : least ≡ nearness_of best word
 
-pub search_start : (l : List ℕ) (word best least : ℕ) → 0 < length l → best ≡ get_or l 0 0 → least ≡ nearness_of best word
-    → Searched l word best least 1
-search_start l word best least h e n = record {
-  inside = omega arith;
-  is = rw e (nearest_start l word h);
-  least_is = n;
-}
-
-pub search_taken : (l : List ℕ) (word best least i entry n : ℕ) → i < length l → entry ≡ get_or l i 0 → n ≡ nearness_of entry word
-    → n < least → Searched l word best least i → Searched l word entry n (i + 1)
-search_taken l word best least i entry n h e en k s =
+pub search_taken : (all rest : List ℕ) (word best least i entry n : ℕ) → i < length rest → entry ≡ get_or rest i 0 → n ≡ nearness_of entry word
+    → n < least → Searched all rest word best least i → Searched all rest word entry n (i + 1)
+search_taken all rest word best least i entry n h e en k s =
     let z : nearer word best entry ≡ entry = nearer_taken word best entry (omega (arith, s.least_is)) in
     record {
-      inside = omega arith;
-      is = ap (λ (b : ℕ). nearest_after word b (drop (i + 1) l)) (sym z ∙ ap (nearer word best) e) ∙ sym (nearest_step l word best i h) ∙ s.is;
+      is = ap (λ (b : ℕ). nearest_after word b (drop (i + 1) rest)) (sym z ∙ ap (nearer word best) e) ∙ sym (nearest_step rest word best i h) ∙ s.is;
       least_is = en;
     }
 
-pub search_left : (l : List ℕ) (word best least i entry n : ℕ) → i < length l → entry ≡ get_or l i 0 → n ≡ nearness_of entry word
-    → least ≤ n → Searched l word best least i → Searched l word best least (i + 1)
-search_left l word best least i entry n h e en k s =
+pub search_left : (all rest : List ℕ) (word best least i entry n : ℕ) → i < length rest → entry ≡ get_or rest i 0 → n ≡ nearness_of entry word
+    → least ≤ n → Searched all rest word best least i → Searched all rest word best least (i + 1)
+search_left all rest word best least i entry n h e en k s =
     let z : nearer word best entry ≡ best = nearer_left word best entry (omega (arith, s.least_is)) in
     record {
-      inside = omega arith;
-      is = ap (λ (b : ℕ). nearest_after word b (drop (i + 1) l)) (sym z ∙ ap (nearer word best) e) ∙ sym (nearest_step l word best i h) ∙ s.is;
+      is = ap (λ (b : ℕ). nearest_after word b (drop (i + 1) rest)) (sym z ∙ ap (nearer word best) e) ∙ sym (nearest_step rest word best i h) ∙ s.is;
       least_is = s.least_is;
     }
 
-pub search_done : (l : List ℕ) (word best least i : ℕ) → length l ≤ i → Searched l word best least i → best ≡ nearest_of l word
-search_done l word best least i h s = sym (nearest_end word best l i h) ∙ s.is
+pub search_done : (all rest : List ℕ) (word best least i : ℕ) → length rest ≤ i → Searched all rest word best least i → best ≡ nearest_of all word
+search_done all rest word best least i h s = sym (nearest_end word best rest i h) ∙ s.is
 
 -- ---- no entry has a smaller N
 case_of : {A : Type 0} (word best e : ℕ) → (nearness_of e word < nearness_of best word → nearer word best e ≡ e → A)

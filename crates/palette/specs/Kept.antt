@@ -1,9 +1,8 @@
 -- What `replace` keeps along the way. Definitions only; no public contract cites them.
-use Rattle.std.specs.Prelude.{◌≡◌, List, ℕ, ◌<◌, length, get_or}
+use Rattle.std.specs.Prelude.{◌≡◌, List, ℕ, All}
 use Rattle.palette.specs.Palette.{nearest_of}
+use Rattle.palette.specs.declared.Slot.{Slot}
 
--- 251 words, and at the same place of another list the entry nearest to each
-pub record Keeps (palette words entries : List ℕ) : Type 0 where
-  pub words_long : length words ≡ 251
-  pub entries_long : length entries ≡ 251
-  pub is : (k : ℕ) → k < 251 → get_or entries k 0 ≡ nearest_of palette (get_or words k 0)
+-- words, each with the entry nearest to it
+abbrev pub Keeps : List ℕ → List Slot → Type 0
+Keeps palette slots = All (λ s. s.entry ≡ nearest_of palette s.word) slots

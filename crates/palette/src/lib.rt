@@ -2,6 +2,7 @@
 #![tactic(auto)]
 
 ghost use Rattle.std.specs.Prelude.{◌≡◌, ◌<◌, ◌≤◌, length};
+ghost use Rattle.std.proofs.Props.{props};
 ghost use Rattle.picture.specs.Fill.{put};
 ghost use Rattle.palette.specs.Palette.{nearest_of, replaced_of};
 ghost use Rattle.palette.specs.Kept.{Keeps};
@@ -18,15 +19,13 @@ pub fn nearest(palette: &[u32], word: u32) -> u32
     }
     let mut best = palette[0];
     let mut least = nearness(best, word);
-    let mut i: usize = 1;
-    while i < palette.len() {
-        let entry = palette[i];
+    let rest = &palette[1..];
+    for &entry in rest {
         let n = nearness(entry, word);
         if n < least {
             least = n;
             best = entry;
         }
-        i += 1;
     }
     best
 }
@@ -36,7 +35,7 @@ const KEPT: usize = 251;
 
 // Where a word's entry is looked for first. By this prime the sixteen colours of EGA and those of HTML, all colours of four levels a
 // channel, and greys four apart have places of their own.
-fn slot(word: u32) -> usize
+fn first_place(word: u32) -> usize
     ensures { result < 251 }
 {
     (word % 251) as usize
@@ -44,33 +43,58 @@ fn slot(word: u32) -> usize
 
 // Where it is looked for next, which is never the first place: an entry whose first place another word takes is moved there, so that two
 // words of one first place are both kept.
-fn second_slot(word: u32) -> usize
+fn second_place(word: u32) -> usize
     ensures { result < 251 }
 {
     ((word % 251 + 1 + word / 251 % 250) % 251) as usize
 }
 
-// The entry nearest to the word: the one kept where it is kept, else found and kept.
-fn entry_of(palette: &[u32], word: u32, words: &mut [u32; KEPT], entries: &mut [u32; KEPT]) -> u32
-    requires { Keeps palette.now words.old entries.old }
-    ensures { (result ≡ nearest_of palette.now word) × Keeps palette.now words.new entries.new }
-{
-    let k = slot(word);
-    if words[k] == word {
-        return entries[k];
+// A word, and the palette's entry nearest to it.
+#[derive(Clone, Copy)]
+struct Slot {
+    word: u32,
+    entry: u32,
+}
+
+// A palette, and the entries that were found along the way.
+#[derive(Drop)]
+struct Kept<'a> {
+    palette: &'a [u32],
+    slots: [Slot; KEPT],
+    ghost right: { Keeps palette.now slots } by { Prim.hlevel props },
+}
+
+impl<'a> Kept<'a> {
+    // Of this palette. At the start each slot keeps the entry of the word 0.
+    fn of(palette: &'a [u32]) -> Kept<'a>
+        ensures { result.palette ≡ palette.entry }
+    {
+        let entry = nearest(palette, 0);
+        Kept {
+            palette,
+            slots: [Slot { word: 0, entry }; KEPT],
+        }
     }
-    let j = second_slot(word);
-    if words[j] == word {
-        return entries[j];
+
+    // The entry nearest to the word: the one kept where it is kept, else found and kept.
+    fn entry_of(&mut self, word: u32) -> u32
+        ensures { (result ≡ nearest_of self.old.palette.now word) × (self.new.palette ≡ self.old.palette) }
+    {
+        let k = first_place(word);
+        let first = self.slots[k];
+        if first.word == word {
+            return first.entry;
+        }
+        let second = self.slots[second_place(word)];
+        if second.word == word {
+            return second.entry;
+        }
+        let m = second_place(first.word);
+        self.slots[m] = first;
+        let entry = nearest(self.palette, word);
+        self.slots[k] = Slot { word, entry };
+        entry
     }
-    let old = words[k];
-    let m = second_slot(old);
-    entries[m] = entries[k];
-    words[m] = old;
-    let entry = nearest(palette, word);
-    entries[k] = entry;
-    words[k] = word;
-    entry
 }
 
 // The picture's first n words, each replaced by the nearest entry, at the front of `replaced`.
@@ -78,13 +102,8 @@ pub fn replace(picture: &[u32], n: usize, palette: &[u32], replaced: &mut [u32])
     requires { (n ≤ length picture.now) × (n ≤ length replaced.old) }
     ensures { replaced.new ≡ put 0 (replaced_of palette.now n picture.now) replaced.old }
 {
-    let first = nearest(palette, 0);
-    let mut words = [0u32; KEPT];
-    let mut entries = [first; KEPT];
-    let mut i: usize = 0;
-    while i < n {
-        let entry = entry_of(palette, picture[i], &mut words, &mut entries);
-        replaced[i] = entry;
-        i += 1;
+    let mut kept = Kept::of(palette);
+    for i in 0..n {
+        replaced[i] = kept.entry_of(picture[i]);
     }
 }

@@ -4,14 +4,17 @@ ghost use Rattle.single.specs.Root.{root_answer};
 ghost use Rattle.metric.specs.Distance.{distance_of};
 ghost use Rattle.colour.specs.Nearness.{nearness_of};
 
+use picture::refusal::number;
+
 // The root of x; +0.0 beside a refusal.
+#[tactic(auto, using(single::proofs::Constants::zero_is))]
 #[unsafe(no_mangle)]
 pub extern "C" fn panel_root(x: f32, root: &mut f32) -> u32
     ensures { record { refusal = result; root = root.new } ≡ root_answer x }
 {
-    let rooted = single::root(x);
-    *root = rooted.root;
-    rooted.refusal
+    let answer = single::root(x);
+    *root = answer.unwrap_or(0.0);
+    number(&answer)
 }
 
 // How different two colours are, from 0 to 1.

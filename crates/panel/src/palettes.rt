@@ -3,6 +3,7 @@ ghost use Rattle.clarity.specs.Clarity.{setting_of};
 ghost use Rattle.whole_palette.specs.Calls.{ScalesBy};
 
 use clarity::setting_of;
+use picture::refusal::number;
 
 // A whole picture three times as large, its words replaced by the nearest entries.
 #[unsafe(no_mangle)]
@@ -23,7 +24,8 @@ pub extern "C" fn panel_scale_palette(
         replaced.new output.new singles.new bytes.new result }
 {
     let setting = setting_of(clarity, threshold);
-    whole_palette::scale_palette(
+    let answer = whole_palette::scale_palette(
         w, h, setting, picture, palette, replaced, output, singles, bytes,
-    )
+    );
+    number(&answer)
 }

@@ -3,6 +3,7 @@ ghost use Rattle.clarity.specs.Clarity.{setting_of};
 ghost use Rattle.whole_palette.specs.Calls.{ScalesBy9};
 
 use clarity::setting_of;
+use picture::refusal::number;
 
 // A whole picture nine times as large, its words replaced by the nearest entries.
 #[unsafe(no_mangle)]
@@ -25,7 +26,8 @@ pub extern "C" fn panel_scale9x_palette(
         replaced.new output.new middle.new singles.new bytes.new result }
 {
     let setting = setting_of(clarity, threshold);
-    whole_palette::scale9x_palette(
+    let answer = whole_palette::scale9x_palette(
         w, h, setting, picture, palette, replaced, output, middle, singles, bytes,
-    )
+    );
+    number(&answer)
 }

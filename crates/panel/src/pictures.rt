@@ -3,6 +3,7 @@ ghost use Rattle.clarity.specs.Clarity.{setting_of};
 ghost use Rattle.whole.specs.Calls.{Scales, Scales9};
 
 use clarity::setting_of;
+use picture::refusal::number;
 
 // A whole picture three times as large.
 #[unsafe(no_mangle)]
@@ -21,7 +22,7 @@ pub extern "C" fn panel_scale(
         output.new singles.new bytes.new result }
 {
     let setting = setting_of(clarity, threshold);
-    whole::scale(w, h, setting, picture, output, singles, bytes)
+    number(&whole::scale(w, h, setting, picture, output, singles, bytes))
 }
 
 // A whole picture nine times as large.
@@ -42,5 +43,6 @@ pub extern "C" fn panel_scale9x(
         output.new middle.new singles.new bytes.new result }
 {
     let setting = setting_of(clarity, threshold);
-    whole::scale9x(w, h, setting, picture, output, middle, singles, bytes)
+    let answer = whole::scale9x(w, h, setting, picture, output, middle, singles, bytes);
+    number(&answer)
 }

@@ -1,4 +1,6 @@
-// The calls of the three-times session. `arrays` says how header and items are handed over.
+// The calls of the three-times session. `arrays` says how header and items are handed over. The calls of `sessions9` are the same at
+// another screen, and stay functions of their own, since C has a name and a signature for each, and its contract names the screen: what
+// they do is said once, in `face`.
 ghost use Rattle.std.specs.Prelude.{◌≡◌, map};
 ghost use Rattle.clarity.specs.Clarity.{setting_of};
 ghost use Rattle.machine.specs.Calls.{Opens, Paints, PaintLists, Refreshes, Shows, Locks};
@@ -121,10 +123,8 @@ pub extern "C" fn panel_show(
         output.now marks.now bx by
         (record { refusal = result; words = words.new }) }
 {
-    let mut block = [0u32; 9];
-    let refusal = face::show(THREE, header, output, marks, bx, by, &mut block);
-    *words = block;
-    refusal
+    *words = [0; 9];
+    face::show(THREE, header, output, marks, bx, by, words)
 }
 
 // The header with another rectangle locked.

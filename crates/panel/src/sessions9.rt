@@ -121,10 +121,8 @@ pub extern "C" fn panel9_show(
         output.now marks.now bx by
         (record { refusal = result; words = words.new }) }
 {
-    let mut block = [0u32; 81];
-    let refusal = face::show(NINE, header, output, marks, bx, by, &mut block);
-    *words = block;
-    refusal
+    *words = [0; 81];
+    face::show(NINE, header, output, marks, bx, by, words)
 }
 
 // The header with another rectangle locked.

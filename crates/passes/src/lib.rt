@@ -1,20 +1,16 @@
 // The passes on rectangles each of which holds what the next one reads, and the tags of a tile of pixels from the picture alone.
 #![tactic(auto)]
 
-ghost use Rattle.std.specs.Prelude.{◌≡◌, ◌+◌, ◌-◌, ◌*◌, ◌≤◌, length, take, drop};
+ghost use Rattle.std.specs.Prelude.{◌≡◌, ◌≤◌, length};
 ghost use Rattle.picture.specs.Picture.{words};
-ghost use Rattle.picture.specs.Fill.{put};
-ghost use Rattle.grid.specs.Grid.{of_junctions, metric_field, weights_field, rect_of};
-ghost use Rattle.grid.specs.Room.{Held, Feeds};
-ghost use Rattle.junction.specs.Junction.{junctions};
 ghost use Rattle.block.specs.Ring.{ring_of};
 ghost use Rattle.passes.specs.Window.{Tile, Rooms, Passed, TileTagged, tile_bytes};
 
 use clarity::Clarity;
 use field::{metrics_rect, weights_rect};
-use grid::Grid;
+use grid::{Grid, Records};
 use junction_field::junctions_rect;
-use picture::place::{least, saturating_sub};
+use picture::whole::Picture;
 use tagged::tags_rect;
 
 // The most columns and rows of a tile.
@@ -34,106 +30,82 @@ pub const TAGS: usize = 22 * 18 * 4;
 // A tile's bytes: those junctions, and the tags of its own pixels, 16 by 12 at most.
 pub const BYTES: usize = TAGS + 16 * 12 * 4;
 
-// The rectangle that reaches a pixels round the k by r pixels from (x, y) on, as far as the picture goes.
-pub fn ring(w: u32, h: u32, x: u32, y: u32, k: u32, r: u32, a: u32) -> Grid
-    requires { (Tile w h x y k r) × (a ≤ 5) }
-    ensures { result ≡ ring_of w h x y k r a }
+// The rectangle that reaches a pixels round the tile t, as far as the picture goes.
+pub fn ring(w: u32, h: u32, t: Grid, a: u32) -> Grid
+    requires { (Tile w h t.x0 t.y0 t.cols t.rows) × (a ≤ 5) }
+    ensures { result ≡ ring_of w h t.x0 t.y0 t.cols t.rows a }
 {
-    let x0 = saturating_sub(x, a);
-    let y0 = saturating_sub(y, a);
+    let x0 = t.x0.saturating_sub(a);
+    let y0 = t.y0.saturating_sub(a);
     Grid {
         x0,
         y0,
-        cols: least(x + k + a, w) - x0,
-        rows: least(y + r + a, h) - y0,
+        cols: (t.x0 + t.cols + a).min(w) - x0,
+        rows: (t.y0 + t.rows + a).min(h) - y0,
     }
 }
 
-// The junctions of the rectangle q, from the metrics of g before `cut` and the weights of v from there on.
-fn junctions_from(
-    singles: &[f32],
-    cut: usize,
-    g: Grid,
-    v: Grid,
-    w: u32,
-    h: u32,
-    q: Grid,
-    bytes: &mut [u8],
-)
-    requires { (Feeds 1 1 g w h q) × ((Held g cut) × ((Feeds 1 1 v w h q)
-        × ((cut + v.rows * (v.cols * 4) ≤ length singles.now) × (Held q (length bytes.old))))) }
-    ensures { bytes.new ≡ put 0 (rect_of of_junctions q
-        (junctions w h (metric_field g (take cut singles.now)) (weights_field v (drop cut singles.now))))
-        bytes.old }
-{
-    let m = &singles[..cut];
-    let s = &singles[cut..];
-    junctions_rect(m, g, s, v, w, h, q, bytes);
+// The rectangles of a run of the passes: of each kind of records, the pixels whose records are kept.
+#[derive(Clone, Copy)]
+pub struct Windows {
+    pub metrics: Grid,
+    pub weights: Grid,
+    pub junctions: Grid,
+    pub tags: Grid,
 }
 
-// The metrics of the rectangle g, the weights of v from `cut` on, the junctions of q, and the tags of t from `from` on: each holds what
-// the next one reads, so all of them are the picture's own at that clarity.
+// The metrics at the front of the singles, the weights from `cut` on, the junctions at the front of the bytes, and the tags from `from`
+// on: each holds what the next one reads, so all of them are the picture's own at that clarity.
 pub fn passes(
-    picture: &[u32],
-    w: u32,
-    h: u32,
+    picture: Picture,
     clarity: Clarity,
-    g: Grid,
-    v: Grid,
-    q: Grid,
-    t: Grid,
+    r: Windows,
     singles: &mut [f32],
     cut: usize,
     bytes: &mut [u8],
     from: usize,
 )
-    requires { Rooms w h g v q t cut from (length picture.now) (length singles.old) (length bytes.old) }
-    ensures { Passed clarity w h (words w picture.now) g v q t cut from
-        singles.old singles.new bytes.old bytes.new }
+    requires { Rooms picture.w picture.h r.metrics r.weights r.junctions r.tags cut from
+        (length picture.words.now) (length singles.old) (length bytes.old) }
+    ensures { Passed clarity picture.entry.w picture.entry.h (words picture.entry.w picture.entry.words.now)
+        r.metrics r.weights r.junctions r.tags cut from singles.old singles.new bytes.old bytes.new }
 {
-    metrics_rect(picture, w, h, g, singles);
-    weights_rect(clarity, singles, cut, g, w, h, v);
-    junctions_from(singles, cut, g, v, w, h, q, bytes);
-    tags_rect(bytes, from, q, w, h, t);
+    let w = picture.w;
+    let h = picture.h;
+    let (m, s) = singles.split_at_mut(cut);
+    let (j, t) = bytes.split_at_mut(from);
+    metrics_rect(picture, r.metrics, m);
+    let metrics = Records {
+        elements: m,
+        of: r.metrics,
+    };
+    weights_rect(clarity, metrics, w, h, r.weights, s);
+    let weights = Records {
+        elements: s,
+        of: r.weights,
+    };
+    junctions_rect(metrics, weights, w, h, r.junctions, j);
+    let junctions = Records {
+        elements: j,
+        of: r.junctions,
+    };
+    tags_rect(junctions, w, h, r.tags, t);
 }
 
-// The tags of the k by r pixels from (x, y) on, from the picture alone, from the byte TAGS on. Before them stand the junctions round them.
-pub fn tags_tile(
-    picture: &[u32],
-    w: u32,
-    h: u32,
-    clarity: Clarity,
-    x: u32,
-    y: u32,
-    k: u32,
-    r: u32,
-    bytes: &mut [u8],
-)
-    requires { (Tile w h x y k r) × ((w * h ≤ length picture.now) × (tile_bytes ≤ length bytes.old)) }
-    ensures { TileTagged clarity w h (words w picture.now) x y k r bytes.old bytes.new }
+// The tags of the tile t, from the picture alone, from the byte TAGS on. Before them stand the junctions round it.
+pub fn tags_tile(picture: Picture, clarity: Clarity, t: Grid, bytes: &mut [u8])
+    requires { (Tile picture.w picture.h t.x0 t.y0 t.cols t.rows) × (tile_bytes ≤ length bytes.old) }
+    ensures { TileTagged clarity picture.entry.w picture.entry.h (words picture.entry.w picture.entry.words.now)
+        t.x0 t.y0 t.cols t.rows bytes.old bytes.new }
 {
-    let g = ring(w, h, x, y, k, r, 5);
-    let v = ring(w, h, x, y, k, r, 4);
-    let q = ring(w, h, x, y, k, r, 3);
-    let t = Grid {
-        x0: x,
-        y0: y,
-        cols: k,
-        rows: r,
+    let w = picture.w;
+    let h = picture.h;
+    let windows = Windows {
+        metrics: ring(w, h, t, 5),
+        weights: ring(w, h, t, 4),
+        junctions: ring(w, h, t, 3),
+        tags: t,
     };
     let mut singles = [0.0f32; SINGLES];
-    passes(
-        picture,
-        w,
-        h,
-        clarity,
-        g,
-        v,
-        q,
-        t,
-        &mut singles,
-        CUT,
-        bytes,
-        TAGS,
-    );
+    passes(picture, clarity, windows, &mut singles, CUT, bytes, TAGS);
 }

@@ -4,3 +4,4 @@ pub mod Span
 pub mod Pipeline
 pub mod Fill
 pub mod Refusal
+pub mod Answer

@@ -1,5 +1,5 @@
--- The refusal numbers, by name. Definitions only; `src/refusal.rt` has the same names for the
--- code, and `numbers` there is proved to be `all`.
+-- The refusal numbers, by name. Definitions only; `src/refusal.rt` has the enum that the code answers, whose numbers `Answer.antt` ties
+-- to these, and `numbers` there is proved to be `all`.
 use Rattle.std.specs.Prelude.{List, [], ◌∷◌, ℕ}
 
 -- not refused

@@ -1,6 +1,8 @@
-// The reader: a picture's words with its two sizes, and thin functions over it, of which `word_near` does the work.
+// The reader: a picture's words with its two sizes. It asks for no number of words: past the last one it reads 0.
 ghost use Rattle.std.specs.Prelude.{◌≡◌};
 ghost use Rattle.picture.specs.Picture.{near, words};
+
+use crate::shift;
 
 #[derive(Clone, Copy)]
 pub struct Reader<'a> {
@@ -21,6 +23,9 @@ impl<'a> Reader<'a> {
     pub fn get(self, x: u32, y: u32, dx: i32, dy: i32) -> u32
         ensures { result ≡ near self.entry.w self.entry.h (words self.entry.w self.entry.words.now) x y dx dy }
     {
-        crate::word_near(self.words, self.w, self.h, x, y, dx, dy)
+        let cx = shift(x, dx, self.w) as usize;
+        let cy = shift(y, dy, self.h) as usize;
+        let i = cy * (self.w as usize) + cx;
+        self.words.get(i).copied().unwrap_or(0)
     }
 }

@@ -1,18 +1,23 @@
-// The refresh of a session, once for both screens: it takes the scale and the header, as the calls of `calls` do.
+// The refresh of a session, once for both screens: it takes the scale and the header, as the calls of `calls` do. `specs/Answers.antt` says
+// what stands for an answer's values beside a refusal.
 #![tactic(auto)]
 
+ghost use Rattle.picture.specs.Answer.{refusal_of};
 ghost use Rattle.machine.specs.Calls.{Refreshes};
 ghost use Rattle.screens.specs.Screens.{screen_of};
+ghost use Rattle.refreshed.specs.Answers.{refreshed_in};
 
 use draw::draw_first;
 use header::Header;
-use picture::place::least;
-use refusals::refuse_all;
+use picture::refusal::Refusal;
+use picture::whole::Picture;
+use refusals::check_all;
+use screens::frame::Frame;
 use screens::{side, words};
 
-#[derive(Clone, Copy)]
+// The default is what stands beside a refusal.
+#[derive(Clone, Copy, Default)]
 pub struct Refreshed {
-    pub refusal: u32,
     pub drawn: u32,
     pub left: u32,
 }
@@ -25,39 +30,30 @@ pub fn refresh(
     output: &mut [u32],
     marks: &mut [u8],
     n: u32,
-) -> Refreshed
+) -> Result<Refreshed, Refusal>
     ensures { Refreshes (screen_of scale) header picture.now output.old marks.old n
         (record {
           output = output.new;
           marks = marks.new;
-          refusal = result.refusal;
-          drawn = result.drawn;
-          left = result.left;
+          refusal = refusal_of result;
+          drawn = (refreshed_in result).drawn;
+          left = (refreshed_in result).left;
         }) }
 {
-    let refusal = refuse_all(
-        side(scale),
-        words(scale),
-        header,
-        picture.len(),
-        output.len(),
-        marks.len(),
-    );
-    if refusal != 0 {
-        return Refreshed {
-            refusal,
-            drawn: 0,
-            left: 0,
-        };
-    }
-    let clarity = header.clarity;
-    let stale = draw_first(
-        picture, output, marks, header.w, header.h, clarity, scale, n,
-    );
-    let drawn = least(stale, n);
-    Refreshed {
-        refusal: 0,
-        drawn,
-        left: stale - drawn,
-    }
+    let (p, o, m) = (picture.len(), output.len(), marks.len());
+    check_all(side(scale), words(scale), header, p, o, m)?;
+    let picture = Picture {
+        words: picture,
+        w: header.w,
+        h: header.h,
+    };
+    let frame = Frame {
+        picture,
+        clarity: header.clarity,
+        scale,
+    };
+    let stale = draw_first(frame, output, marks, n);
+    let drawn = stale.min(n);
+    let left = stale - drawn;
+    Ok(Refreshed { drawn, left })
 }

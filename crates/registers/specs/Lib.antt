@@ -1,3 +1,4 @@
 pub mod Address
 pub mod Registers
 pub mod Claims
+pub mod Answers

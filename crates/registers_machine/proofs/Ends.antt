@@ -1,20 +1,20 @@
 -- What a write promises, from its refusal and from what its parts do. Assumes nothing.
 use mathlib.Core.Path.{◌≡◌, refl, sym, ap, ◌∙◌, subst}
 use mathlib.Core.Bool.{Bool, true, false, cond, not, ◌&&◌, ◌||◌}
-use mathlib.Core.List.{List, [], ◌∷◌}
-use Prim.Native.Nat.{ℕ, zero, suc, ◌+◌, ◌-◌, ◌*◌, ◌<◌, min}
+use mathlib.Core.List.{List}
+use Prim.Native.Nat.{ℕ, ◌+◌, ◌*◌, ◌<◌, min}
 use native.Mathlib.Omega.{arith}
 use lib.Dec.{ltb, eqb}
-use lib.ListN.{length, set, get_or}
+use lib.ListN.{length, get_or}
 use borrow.Author.Tests.{ne_eqb, eq-eqb, eqb-true, eqb-false}
 use Rattle.picture.specs.Refusal as refusal
 use Rattle.clarity.specs.Clarity.{lawful_of}
 use Rattle.header.specs.declared.Header.{Header}
 use Rattle.header.specs.Header.{locked, past}
-use Rattle.machine.specs.Lists.{set_all, count, first}
+use Rattle.machine.specs.Lists.{count}
 use Rattle.machine.specs.Screen.{Screen, block_words}
 use Rattle.machine.specs.Machine.{inside}
-use Rattle.machine.specs.Calls.{is_stale, stale_of, side_long, refusal_all, refusal_paint, PaintEnd, RefreshEnd, paint_end, refresh_end, Paints, Refreshes}
+use Rattle.machine.specs.Calls.{stale_of, side_long, refusal_all, refusal_paint, PaintEnd, RefreshEnd, paint_end, refresh_end, Paints, Refreshes}
 use Rattle.machine.proofs.Ends.{count_left}
 use Rattle.registers.specs.Registers.{two_bytes, four_bytes, is_paint, is_refresh, with_raised, with_answer, with_byte, after_paint, after_refresh, refusal_write}
 use Rattle.registers_machine.specs.Calls.{write_end, WritesByte}

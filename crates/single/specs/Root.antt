@@ -1,11 +1,11 @@
 -- Section 2: the root of a single is the single nearest its exact square root. Definitions only;
 -- `Claims.antt` says what is proved of them.
-use Rattle.std.specs.Prelude.{ℕ, zero, suc, ◌+◌, ◌-◌, ◌*◌, ◌/◌, ◌%◌, ◌^◌, Bool, true, false, cond, leb, ltb, Float}
+use Rattle.std.specs.Prelude.{ℕ, zero, suc, ◌+◌, ◌-◌, ◌*◌, ◌/◌, ◌%◌, ◌^◌, Bool, true, false, cond, Ok, Err, Result, leb, ltb, Float}
 use Rattle.std.specs.Float.{nan, inf, fin, binary32}
 use Rattle.std.specs.Float.Ieee.{of_bits, to_bits}
 use Rattle.picture.specs.Refusal.{none, operand}
 use Rattle.single.specs.Single.{f0}
-use Rattle.single.specs.declared.Rooted.{Rooted}
+use Rattle.picture.specs.declared.refusal.Refusal.{Refusal}
 
 -- The singles without sign bit, in their order, have the bit patterns 0, 1, 2, .. `single c` is the size of the one with the pattern c, in
 -- units of 2 ^ -149, of which every finite single is a whole number: below 2 ^ 23 it is c itself, and from there on c's 23 low digits
@@ -41,6 +41,16 @@ rooted nan = false
 rooted (inf s) = false
 rooted (fin true m e) = false
 rooted (fin false m e) = true
+
+-- a refusal's number, 0 for none, and a root
+pub record Rooted : Type 0 where
+  pub refusal : ℕ
+  pub root : Float
+
+-- the root that an answer carries, and +0.0 where it is refused
+abbrev pub carried : Result Float Refusal → Float
+carried (Ok x) = x
+carried (Err e) = f0
 
 -- What is answered for any single: its root, or refusal 6 (sign bit set, infinite or not a number) with +0.0 beside it.
 unfoldable pub root_answer : Float → Rooted

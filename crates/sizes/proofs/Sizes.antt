@@ -1,8 +1,7 @@
 -- Sides within a limit and lengths that suffice: what a call that is not refused knows of them. Assumes nothing.
 use mathlib.Core.Path.{◌≡◌, refl}
 use mathlib.Core.Bool.{Bool, true, false, cond, ◌||◌}
-use Prim.Native.Nat.{ℕ, suc, ◌-◌, ◌*◌, ◌^◌, ◌≤◌, ◌<◌}
-use native.Mathlib.Nat.{mul-le-mul}
+use Prim.Native.Nat.{ℕ, suc, ◌≤◌}
 use native.Mathlib.Omega.{arith}
 use lib.Dec.{ltb}
 use borrow.Author.Tests.{ltb-false, le-ltb}
@@ -10,15 +9,7 @@ use Rattle.clarity.specs.declared.Clarity.{Clarity}
 use Rattle.clarity.specs.Clarity.{lawful_of}
 use Rattle.sizes.specs.declared.Asked.{Asked}
 use Rattle.sizes.specs.declared.Lengths.{Lengths}
-use Rattle.sizes.specs.Sizes.{refusal_of, words_within}
-
-below : (a : ℕ) → a < 2 ^ 32 → a ≤ 2 ^ 32 - 1
-below a h = omega arith
-
-pub product_fits : (a b : ℕ) → a < 2 ^ 32 → b < 2 ^ 32 → a * b < 2 ^ 64
-product_fits a b ha hb =
-    let p : a * b ≤ (2 ^ 32 - 1) * (2 ^ 32 - 1) = mul-le-mul (below a ha) (below b hb) in
-    omega arith
+use Rattle.sizes.specs.Sizes.{refusal_of}
 
 -- no test of the sides held: they are within the limit
 pub sides : (side w h : ℕ) → (ltb side w || ltb side h) ≡ false → (w ≤ side) × (h ≤ side)
@@ -28,18 +19,6 @@ sides side w h e = go (ltb side w) (ltb side h) refl refl e
     go false false p q z = (ltb-false side w p, ltb-false side h q)
     go false true p q z = absurd (mathlib.Core.Bool.true≢false z)
     go true t p q z = absurd (mathlib.Core.Bool.true≢false z)
-
-pub within_small : (side w h n : ℕ) → side ≤ 2048 → n ≡ words_within side w h → n ≤ 4194304
-within_small side w h n l e = go (ltb side w || ltb side h) refl e
-  where
-    go : (t : Bool) → (ltb side w || ltb side h) ≡ t → n ≡ cond t 0 (w * h) → n ≤ 4194304
-    go true p q = omega arith
-    go false p q =
-        let s = sides side w h p in
-        let x : w ≤ 2048 = omega arith in
-        let y : h ≤ 2048 = omega arith in
-        let m : w * h ≤ 2048 * 2048 = mul-le-mul x y in
-        omega arith
 
 -- a call that was not refused: the conditions hold
 pub record Accepted (asked : Asked) (lent : Lengths) : Type 0 where
@@ -101,22 +80,3 @@ taken q asked lent e p x o m s b l =
       le-ltb lent.bytes asked.scratch b,
       l,
     )
-
--- past the limit no length is looked at, so the number is that of the true product
-module _ (q : Clarity) (side w h x : ℕ) (o m s : ℕ → ℕ) (lent : Lengths) where
-  abbrev asking : ℕ → Asked
-  asking n = record { limit = side; w = w; h = h; picture = n; replaced = x; output = o n; middle = m n; scratch = s n }
-
-  pub refusal_within : refusal_of q (asking (words_within side w h)) lent ≡ refusal_of q (asking (w * h)) lent
-  refusal_within = go (ltb side w || ltb side h)
-    where
-      -- the conditions after the first, of n words
-      rest : ℕ → ℕ
-      rest n =
-          cond (ltb lent.picture n) 2
-          (cond (ltb lent.output (o n)) 3
-          (cond (ltb lent.middle (m n) || ltb lent.replaced x || ltb lent.singles (s n) || ltb lent.bytes (s n)) 4 (cond (lawful_of q) 0 13)))
-
-      go : (t : Bool) → cond {A = ℕ} t 1 (rest (cond t 0 (w * h))) ≡ cond {A = ℕ} t 1 (rest (w * h))
-      go true = refl
-      go false = refl

@@ -5,6 +5,8 @@ use Rattle.clarity.specs.declared.Clarity.{Clarity}
 use Rattle.clarity.specs.Clarity.{lawful_of}
 use Rattle.sizes.specs.declared.Asked.{Asked}
 use Rattle.sizes.specs.declared.Lengths.{Lengths}
+use Rattle.sizes.specs.declared.Times.{Times}
+use Rattle.sizes.specs.declared.Times.TheVariants.{Three, Nine}
 
 -- the number of the refusal, the first condition that holds
 abbrev pub refusal_of : Clarity → Asked → Lengths → ℕ
@@ -58,3 +60,12 @@ refusal9 q w h picture output middle singles bytes = refusal_of q (asked9 w h (w
 -- the words of a picture within the limit, and 0 past it, where no length is looked at
 abbrev pub words_within : ℕ → ℕ → ℕ → ℕ
 words_within side w h = cond (ltb side w || ltb side h) 0 (w * h)
+
+-- the two calls by how many times as large they make the picture: what each asks for, and its largest side
+abbrev pub asked_of : Times → ℕ → ℕ → ℕ → ℕ → Asked
+asked_of Three w h n x = asked3 w h n x
+asked_of Nine w h n x = asked9 w h n x
+
+abbrev pub limit_of : Times → ℕ
+limit_of Three = 2048
+limit_of Nine = 682

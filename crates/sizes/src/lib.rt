@@ -2,15 +2,24 @@
 // lengths that each call asks for.
 #![tactic(auto)]
 
-ghost use Rattle.std.specs.Prelude.{◌≡◌, ◌*◌, ◌≤◌};
-ghost use Rattle.sizes.specs.Sizes.{asked3, asked9, refusal_of, words_within};
+ghost use Rattle.std.specs.Prelude.{◌≡◌, ◌*◌, ◌≤◌, length};
+ghost use Rattle.picture.specs.Answer.{refusal_of as answered};
+ghost use Rattle.sizes.specs.Sizes.{asked_of, lent9, limit_of, refusal_of, words_within};
 
 use clarity::{Clarity, lawful};
+use picture::refusal::Refusal;
 
 // The largest side of a picture that is enlarged three times, and nine times: 3 * 682 is within 2,048.
 const SIDE3: u32 = 2048;
 
 const SIDE9: u32 = 682;
+
+// How many times as large a picture becomes.
+#[derive(Clone, Copy)]
+pub enum Times {
+    Three,
+    Nine,
+}
 
 // What a call asks for: sides within a limit, and so many words of the picture, of the replaced picture, of the output and of the middle,
 // and elements of both singles and bytes.
@@ -37,18 +46,41 @@ pub struct Lengths {
     pub bytes: usize,
 }
 
-// The number that turns a call away, or 0. What is lent is looked at before the setting.
-fn refusal(clarity: Clarity, asked: Asked, lent: Lengths) -> u32
-    ensures { result ≡ refusal_of clarity asked lent }
+impl Lengths {
+    // Of these buffers; a call without a replaced picture or a middle lends an empty one.
+    pub fn of(
+        picture: &[u32],
+        replaced: &[u32],
+        output: &[u32],
+        middle: &[u32],
+        singles: &[f32],
+        bytes: &[u8],
+    ) -> Lengths
+        ensures { result ≡ lent9 (length replaced.now) picture.now output.now middle.now singles.now bytes.now }
+    {
+        Lengths {
+            picture: picture.len(),
+            replaced: replaced.len(),
+            output: output.len(),
+            middle: middle.len(),
+            singles: singles.len(),
+            bytes: bytes.len(),
+        }
+    }
+}
+
+// Why a call is turned away. What is lent is looked at before the setting.
+fn refusal(clarity: Clarity, asked: Asked, lent: Lengths) -> Result<(), Refusal>
+    ensures { answered result ≡ refusal_of clarity asked lent }
 {
     if (asked.limit < asked.w) | (asked.limit < asked.h) {
-        return picture::refusal::SIDE;
+        return Err(Refusal::Side);
     }
     if lent.picture < asked.picture {
-        return picture::refusal::PICTURE;
+        return Err(Refusal::Picture);
     }
     if lent.output < asked.output {
-        return picture::refusal::OUTPUT;
+        return Err(Refusal::Output);
     }
     let scratch = asked.scratch;
     if (lent.middle < asked.middle)
@@ -56,12 +88,12 @@ fn refusal(clarity: Clarity, asked: Asked, lent: Lengths) -> u32
         | (lent.singles < scratch)
         | (lent.bytes < scratch)
     {
-        return picture::refusal::SCRATCH;
+        return Err(Refusal::Scratch);
     }
     if !lawful(clarity) {
-        return picture::refusal::CLARITY;
+        return Err(Refusal::Clarity);
     }
-    picture::refusal::NONE
+    Ok(())
 }
 
 // The words of a picture.
@@ -82,43 +114,39 @@ fn words_of(side: u32, w: u32, h: u32) -> usize
     area(w, h)
 }
 
-// The number that turns three-times away, or 0; `replaced` is how many words the replaced picture takes, 0 where there is none.
-pub fn refuse3(clarity: Clarity, w: u32, h: u32, replaced: usize, lent: Lengths) -> u32
-    ensures { result ≡ refusal_of clarity (asked3 w h (w * h) replaced) lent }
-{
-    let n = words_of(SIDE3, w, h);
-    let large = 9 * n;
-    let scratch = 8 * n;
-    let asked = Asked {
-        limit: SIDE3,
-        w,
-        h,
-        picture: n,
-        replaced,
-        output: large,
-        middle: 0,
-        scratch,
-    };
-    refusal(clarity, asked, lent)
+impl Times {
+    // What a call asks for: a word takes so many words of the output and of the middle, and elements of singles and bytes.
+    fn asks(self, w: u32, h: u32, replaced: usize) -> Asked
+        ensures { result ≡ asked_of self w h (words_within (limit_of self) w h) replaced }
+    {
+        let (limit, output, middle, scratch) = match self {
+            Times::Three => (SIDE3, 9, 0, 8),
+            Times::Nine => (SIDE9, 81, 9, 72),
+        };
+        let n = words_of(limit, w, h);
+        Asked {
+            limit,
+            w,
+            h,
+            picture: n,
+            replaced,
+            output: output * n,
+            middle: middle * n,
+            scratch: scratch * n,
+        }
+    }
 }
 
-// The same of nine-times.
-pub fn refuse9(clarity: Clarity, w: u32, h: u32, replaced: usize, lent: Lengths) -> u32
-    ensures { result ≡ refusal_of clarity (asked9 w h (w * h) replaced) lent }
+// Why a call is turned away; `replaced` is how many words the replaced picture takes, 0 where there is none.
+pub fn refuse(
+    times: Times,
+    clarity: Clarity,
+    w: u32,
+    h: u32,
+    replaced: usize,
+    lent: Lengths,
+) -> Result<(), Refusal>
+    ensures { answered result ≡ refusal_of clarity (asked_of times w h (w * h) replaced) lent }
 {
-    let n = words_of(SIDE9, w, h);
-    let large = 81 * n;
-    let middle = 9 * n;
-    let scratch = 72 * n;
-    let asked = Asked {
-        limit: SIDE9,
-        w,
-        h,
-        picture: n,
-        replaced,
-        output: large,
-        middle,
-        scratch,
-    };
-    refusal(clarity, asked, lent)
+    refusal(clarity, times.asks(w, h, replaced), lent)
 }

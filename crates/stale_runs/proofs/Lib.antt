@@ -3,3 +3,5 @@ pub mod Swept
 pub mod Parts
 pub mod Sizes
 mod Runs
+pub mod Rows
+pub mod Put

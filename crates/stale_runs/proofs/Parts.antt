@@ -8,14 +8,13 @@ use native.Mathlib.Nat.{div-add-mod', le-div_iff_mul-le, div-lt_iff_lt-mul, mod-
 use native.Mathlib.Decide.{dec_lt}
 use native.Mathlib.Omega.{arith}
 use lib.ListN.{length, get_or, replicate, get_or-replicate}
-use Rattle.clarity.specs.declared.Clarity.{Clarity}
 use Rattle.machine.specs.Lists.{has}
-use Rattle.machine.specs.Screen.{Screen}
 use Rattle.machine.specs.Calls.{is_stale}
 use Rattle.machine.proofs.Order.{table_has, has_table}
 use Rattle.marks.specs.Marks.{stale_in, blocks_from, Inside, Clear, Part}
 use Rattle.marks.proofs.Counts.{stale_at}
-use Rattle.stale_runs.specs.Steps.{DrawsAll, Swept}
+use Rattle.screens.specs.declared.frame.Frame.{Frame}
+use Rattle.stale_runs.specs.Frames.{DrawsOf, SweptOf}
 use Rattle.stale_runs.proofs.Swept.{Run, swept_none, swept_all, swept_two, swept_as, stays_clear}
 
 -- ---- as runs
@@ -86,52 +85,52 @@ wider p q r s i = record {
   below = omega (arith, i.below);
 }
 
-module _ (S : Screen) (w h : ℕ) (q : Clarity) (picture : List ℕ) {x x' y y' : ℕ} {out m out' m' out'' m'' : List ℕ} where
-  pub swept_columns : (u : ℕ) → x ≤ u → u ≤ x' → Swept S w h q (Inside w x u y y') picture out m out' m'
-      → Swept S w h q (Inside w u x' y y') picture out' m' out'' m'' → Swept S w h q (Inside w x x' y y') picture out m out'' m''
+module _ (f : Frame) {x x' y y' : ℕ} {out m out' m' out'' m'' : List ℕ} where
+  pub swept_columns : (u : ℕ) → x ≤ u → u ≤ x' → SweptOf f (Inside f.picture.w x u y y') out m out' m'
+      → SweptOf f (Inside f.picture.w u x' y y') out' m' out'' m'' → SweptOf f (Inside f.picture.w x x' y y') out m out'' m''
   swept_columns u p r =
-      swept_two S w h q picture (λ b i. wider (omega arith) r (omega arith) (omega arith) i) (λ b i. wider p (omega arith) (omega arith) (omega arith) i)
-      (λ b i. by_column b i (dec_lt (b % w) u))
+      swept_two f (λ b i. wider (omega arith) r (omega arith) (omega arith) i) (λ b i. wider p (omega arith) (omega arith) (omega arith) i)
+      (λ b i. by_column b i (dec_lt (b % f.picture.w) u))
     where
-      by_column : (b : ℕ) → Inside w x x' y y' b → Dec (b % w < u) → Inside w x u y y' b ⊎ Inside w u x' y y' b
+      by_column : (b : ℕ) → Inside f.picture.w x x' y y' b → Dec (b % f.picture.w < u) → Inside f.picture.w x u y y' b ⊎ Inside f.picture.w u x' y y' b
       by_column b i (yes l) = inl (record { left = i.left; right = l; above = i.above; below = i.below })
       by_column b i (no l) = inr (record { left = omega arith; right = i.right; above = i.above; below = i.below })
 
-  pub swept_rows : (v : ℕ) → y ≤ v → v ≤ y' → Swept S w h q (Inside w x x' y v) picture out m out' m'
-      → Swept S w h q (Inside w x x' v y') picture out' m' out'' m'' → Swept S w h q (Inside w x x' y y') picture out m out'' m''
+  pub swept_rows : (v : ℕ) → y ≤ v → v ≤ y' → SweptOf f (Inside f.picture.w x x' y v) out m out' m'
+      → SweptOf f (Inside f.picture.w x x' v y') out' m' out'' m'' → SweptOf f (Inside f.picture.w x x' y y') out m out'' m''
   swept_rows v p r =
-      swept_two S w h q picture (λ b i. wider (omega arith) (omega arith) (omega arith) r i) (λ b i. wider (omega arith) (omega arith) p (omega arith) i)
-      (λ b i. by_row b i (dec_lt (b / w) v))
+      swept_two f (λ b i. wider (omega arith) (omega arith) (omega arith) r i) (λ b i. wider (omega arith) (omega arith) p (omega arith) i)
+      (λ b i. by_row b i (dec_lt (b / f.picture.w) v))
     where
-      by_row : (b : ℕ) → Inside w x x' y y' b → Dec (b / w < v) → Inside w x x' y v b ⊎ Inside w x x' v y' b
+      by_row : (b : ℕ) → Inside f.picture.w x x' y y' b → Dec (b / f.picture.w < v) → Inside f.picture.w x x' y v b ⊎ Inside f.picture.w x x' v y' b
       by_row b i (yes l) = inl (record { left = i.left; right = i.right; above = i.above; below = l })
       by_row b i (no l) = inr (record { left = i.left; right = i.right; above = omega arith; below = i.below })
 
-module _ (S : Screen) (w h : ℕ) (q : Clarity) (picture : List ℕ) {out m out' m' : List ℕ} where
+module _ (f : Frame) {out m out' m' : List ℕ} where
   -- n stale blocks side by side
-  pub run_swept : (x x' y n : ℕ) → 0 < n → x' ≡ x + n → x' ≤ w → stale_in (y * w + x) (y * w + x + n) m ≡ replicate n true
-      → DrawsAll S w h q (blocks_from (y * w + x) n) picture out m out' m' → Swept S w h q (Inside w x x' y (y + 1)) picture out m out' m'
-  run_swept x x' y n p to l e d = swept_all S w h q picture d inside all stale
+  pub run_swept : (x x' y n : ℕ) → 0 < n → x' ≡ x + n → x' ≤ f.picture.w → stale_in (y * f.picture.w + x) (y * f.picture.w + x + n) m ≡ replicate n true
+      → DrawsOf f (blocks_from (y * f.picture.w + x) n) out m out' m' → SweptOf f (Inside f.picture.w x x' y (y + 1)) out m out' m'
+  run_swept x x' y n p to l e d = swept_all f d inside all stale
     where
-      some : 0 < w
+      some : 0 < f.picture.w
       some = omega arith
 
-      inside : (b : ℕ) → has (blocks_from (y * w + x) n) b ≡ true → Inside w x x' y (y + 1) b
-      inside b f =
-          let q = has_table n (λ i. y * w + x + i) b f in
-          run_row w some x x' y b l (omega (arith, q.2), omega (arith, q.2, q.1))
+      inside : (b : ℕ) → has (blocks_from (y * f.picture.w + x) n) b ≡ true → Inside f.picture.w x x' y (y + 1) b
+      inside b u =
+          let q = has_table n (λ i. y * f.picture.w + x + i) b u in
+          run_row f.picture.w some x x' y b l (omega (arith, q.2), omega (arith, q.2, q.1))
 
-      all : (b : ℕ) → Inside w x x' y (y + 1) b → has (blocks_from (y * w + x) n) b ≡ true
+      all : (b : ℕ) → Inside f.picture.w x x' y (y + 1) b → has (blocks_from (y * f.picture.w + x) n) b ≡ true
       all b i =
-          let r = row_run w some x x' y b i in
-          let j : ℕ = b - (y * w + x) in
-          let q : y * w + x + j ≡ b = omega (arith, r.0) in
-          ap (has (blocks_from (y * w + x) n)) (sym q) ∙ table_has n (λ i. y * w + x + i) j (omega (arith, r.1))
+          let r = row_run f.picture.w some x x' y b i in
+          let j : ℕ = b - (y * f.picture.w + x) in
+          let q : y * f.picture.w + x + j ≡ b = omega (arith, r.0) in
+          ap (has (blocks_from (y * f.picture.w + x) n)) (sym q) ∙ table_has n (λ i. y * f.picture.w + x + i) j (omega (arith, r.1))
 
-      stale : (b : ℕ) → Inside w x x' y (y + 1) b → is_stale (get_or m b 0) ≡ true
+      stale : (b : ℕ) → Inside f.picture.w x x' y (y + 1) b → is_stale (get_or m b 0) ≡ true
       stale b i =
-          let r = row_run w some x x' y b i in
-          let lo : ℕ = y * w + x in
+          let r = row_run f.picture.w some x x' y b i in
+          let lo : ℕ = y * f.picture.w + x in
           let j : ℕ = b - lo in
           let q : lo + j ≡ b = omega (arith, r.0) in
           let few : j < n = omega (arith, r.1) in
@@ -142,19 +141,19 @@ module _ (S : Screen) (w h : ℕ) (q : Clarity) (picture : List ℕ) {out m out'
 
   -- a window whose stale blocks all lie in columns x to u - 1 and rows v to v' - 1 of it
   pub window_swept : (x x' y y' u v v' : ℕ) → x ≤ u → u ≤ x' → y ≤ v → v ≤ v' → v' ≤ y'
-      → Clear w x x' y v m → Clear w u x' v v' m → Clear w x x' v' y' m
-      → Swept S w h q (Inside w x (x + (u - x)) v (v + (v' - v))) picture out m out' m' → Swept S w h q (Inside w x x' y y') picture out m out' m'
+      → Clear f.picture.w x x' y v m → Clear f.picture.w u x' v v' m → Clear f.picture.w x x' v' y' m
+      → SweptOf f (Inside f.picture.w x (x + (u - x)) v (v + (v' - v))) out m out' m' → SweptOf f (Inside f.picture.w x x' y y') out m out' m'
   window_swept x x' y y' u v v' p p' r s t above right below k =
-      swept_rows S w h q picture v r (omega arith) (swept_none S w h q picture out m above)
-      (swept_rows S w h q picture v' s t (swept_columns S w h q picture u p p' tile (after right)) (after below))
+      swept_rows f v r (omega arith) (swept_none f out m above)
+      (swept_rows f v' s t (swept_columns f u p p' tile (after right)) (after below))
     where
-      tile : Swept S w h q (Inside w x u v v') picture out m out' m'
+      tile : SweptOf f (Inside f.picture.w x u v v') out m out' m'
       tile =
-          swept_as S w h q picture (λ b i. wider (omega arith) (omega arith) (omega arith) (omega arith) i)
+          swept_as f (λ b i. wider (omega arith) (omega arith) (omega arith) (omega arith) i)
           (λ b i. wider (omega arith) (omega arith) (omega arith) (omega arith) i) k
 
-      after : {a a' c c' : ℕ} → Clear w a a' c c' m → Swept S w h q (Inside w a a' c c') picture out' m' out' m'
-      after f = swept_none S w h q picture out' m' (λ b i. stays_clear S w h q picture k.draws b (f b i))
+      after : {a a' c c' : ℕ} → Clear f.picture.w a a' c c' m → SweptOf f (Inside f.picture.w a a' c c') out' m' out' m'
+      after u = swept_none f out' m' (λ b i. stays_clear f k.draws b (u b i))
 
 -- a part of the picture lies within the marks
 pub part_of : (w h x x' y y' : ℕ) (m : List ℕ) → w ≤ 2048 → h ≤ 2048 → w * h ≤ length m → x ≤ x' → x' ≤ w → y ≤ y' → y' ≤ h → Part w x x' y y' m

@@ -79,8 +79,8 @@ ends false w h x y n o along down long =
     let a : (y + 1) * (9 * w) ≤ h * (9 * w) = mul-le-mul_right (9 * w) (omega arith) in
     omega (arith, a, along, long)
 
-module _ (b : Bool) (q : Clarity) (w h : ℕ) (p source tags : List ℕ) (t : Grid) (s : Source)
-    (ready : Ready (cond b 3 1) (last b q w h (words w p)) t s source tags) (i j n : ℕ) (few : i + n ≤ t.cols) (high : j < t.rows) where
+module _ (b : Bool) (q : Clarity) (w h : ℕ) (p tags : List ℕ) (t : Grid) (s : Source)
+    (ready : Ready (cond b 3 1) (last b q w h (words w p)) t s tags) (i j n : ℕ) (few : i + n ≤ t.cols) (high : j < t.rows) where
   abbrev m : ℕ
   m = cond b 3 1
 
@@ -98,8 +98,11 @@ module _ (b : Bool) (q : Clarity) (w h : ℕ) (p source tags : List ℕ) (t : Gr
       let a : j + 1 ≤ t.rows = omega arith in
       omega (arith, mul-le-mul_left m a, mul-add m j 1)
 
+  pub source_row : s.y + m * j ≤ s.picture.h
+  source_row = omega (arith, down, ready.down)
+
   pub run_room : (o : ℕ) → Small m w t.cols i j n → t.x0 + t.cols ≤ w → t.y0 + t.rows ≤ h → block_words (screen b) * (w * h) ≤ o
-      → RectRoom s.w s.h (s.x + m * i) (s.y + m * j) (m * n) m from row (length source) (length tags) (3 * (m * w))
+      → RectRoom s.picture.w s.picture.h (s.x + m * i) (s.y + m * j) (m * n) m from row (length s.picture.words.now) (length tags) (3 * (m * w))
       (place (screen b) w (t.x0 + i) (t.y0 + j) 0) o
   run_room o small hx hy long =
       let a : (m * j + m) * row ≤ m * t.rows * row = mul-le-mul_right row down in
@@ -117,7 +120,7 @@ module _ (b : Bool) (q : Clarity) (w h : ℕ) (p source tags : List ℕ) (t : Gr
 
   -- what the source and the tags give, as blocks of the last pass
   cells_same : (ow at : ℕ) (out : List ℕ)
-      → put_rect ow at (m * n) m (λ c r. block_from s.w s.h (words s.w source) (s.x + m * i + c) (s.y + m * j + r)
+      → put_rect ow at (m * n) m (λ c r. block_from s.picture.w s.picture.h (words s.picture.w s.picture.words.now) (s.x + m * i + c) (s.y + m * j + r)
       (tags_at tags (from + r * row + c * 4))) out
       ≡ put_rect ow at (m * n) m (λ c r. last b q w h (words w p) (m * (t.x0 + i) + c) (m * (t.y0 + j) + r)) out
   cells_same ow at out =
@@ -127,9 +130,9 @@ module _ (b : Bool) (q : Clarity) (w h : ℕ) (p source tags : List ℕ) (t : Gr
       let et : from + r * row + c * 4 ≡ (m * j + r) * row + (m * i + c) * 4 = omega (arith, add-mul (m * j) r row) in
       let ix : m * t.x0 + (m * i + c) ≡ m * (t.x0 + i) + c = omega (arith, mul-add m t.x0 i) in
       let iy : m * t.y0 + (m * j + r) ≡ m * (t.y0 + j) + r = omega (arith, mul-add m t.y0 j) in
-      ap (λ (n : ℕ). block_from s.w s.h (words s.w source) n (s.y + m * j + r) (tags_at tags (from + r * row + c * 4))) ex
-      ∙ ap (λ (n : ℕ). block_from s.w s.h (words s.w source) (s.x + (m * i + c)) n (tags_at tags (from + r * row + c * 4))) ey
-      ∙ ap (λ (n : ℕ). block_from s.w s.h (words s.w source) (s.x + (m * i + c)) (s.y + (m * j + r)) (tags_at tags n)) et
+      ap (λ (n : ℕ). block_from s.picture.w s.picture.h (words s.picture.w s.picture.words.now) n (s.y + m * j + r) (tags_at tags (from + r * row + c * 4))) ex
+      ∙ ap (λ (n : ℕ). block_from s.picture.w s.picture.h (words s.picture.w s.picture.words.now) (s.x + (m * i + c)) n (tags_at tags (from + r * row + c * 4))) ey
+      ∙ ap (λ (n : ℕ). block_from s.picture.w s.picture.h (words s.picture.w s.picture.words.now) (s.x + (m * i + c)) (s.y + (m * j + r)) (tags_at tags n)) et
       ∙ ready.each (m * i + c) (m * j + r) (omega (arith, across)) (omega (arith, down))
       ∙ ap₂ {C = List ℕ} (last b q w h (words w p)) ix iy)
 
@@ -162,13 +165,13 @@ drawn false q w h x y n p out along down long =
     ∙ ap (λ (d : ℕ). put_row (3 * w) at n (λ c. block_of q w h f (x + c) d) out) ey
     ∙ run_drawn q w h x y n p out along down long
 
-module _ (b : Bool) (q : Clarity) (w h : ℕ) (p source tags : List ℕ) (t : Grid) (s : Source)
-    (ready : Ready (cond b 3 1) (last b q w h (words w p)) t s source tags) (i j n : ℕ) (few : i + n ≤ t.cols) (high : j < t.rows) where
+module _ (b : Bool) (q : Clarity) (w h : ℕ) (p tags : List ℕ) (t : Grid) (s : Source)
+    (ready : Ready (cond b 3 1) (last b q w h (words w p)) t s tags) (i j n : ℕ) (few : i + n ≤ t.cols) (high : j < t.rows) where
   pub run_stored : (out : List ℕ) → t.x0 + t.cols ≤ w → t.y0 + t.rows ≤ h → block_words (screen b) * (w * h) ≤ length out
       → put_rect (3 * (cond b 3 1 * w)) (place (screen b) w (t.x0 + i) (t.y0 + j) 0) (cond b 3 1 * n) (cond b 3 1)
-      (λ c r. block_from s.w s.h (words s.w source) (s.x + cond b 3 1 * i + c) (s.y + cond b 3 1 * j + r)
+      (λ c r. block_from s.picture.w s.picture.h (words s.picture.w s.picture.words.now) (s.x + cond b 3 1 * i + c) (s.y + cond b 3 1 * j + r)
       (tags_at tags (cond b 3 1 * j * (4 * (cond b 3 1 * t.cols)) + 4 * (cond b 3 1 * i) + r * (4 * (cond b 3 1 * t.cols)) + c * 4))) out
       ≡ put_all (screen b) w h q (take (w * h) p) (blocks_from ((t.y0 + j) * w + (t.x0 + i)) n) out
   run_stored out hx hy long =
-      cells_same b q w h p source tags t s ready i j n few high (3 * (cond b 3 1 * w)) (place (screen b) w (t.x0 + i) (t.y0 + j) 0) out
+      cells_same b q w h p tags t s ready i j n few high (3 * (cond b 3 1 * w)) (place (screen b) w (t.x0 + i) (t.y0 + j) 0) out
       ∙ drawn b q w h (t.x0 + i) (t.y0 + j) n p out (omega arith) (omega arith) long

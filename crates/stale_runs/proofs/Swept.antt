@@ -7,13 +7,15 @@ use mathlib.Core.List.{List, [], ◌++◌}
 use Prim.Native.Nat.{ℕ, ◌+◌, ◌-◌, ◌*◌, ◌≤◌, ◌<◌}
 use native.Mathlib.Omega.{arith}
 use lib.ListN.{length, get_or, take}
-use Rattle.clarity.specs.declared.Clarity.{Clarity}
 use Rattle.machine.specs.Lists.{has, count}
-use Rattle.machine.specs.Screen.{Screen, Lawful, block_words}
+use Rattle.machine.specs.Screen.{block_words}
 use Rattle.machine.specs.Calls.{is_stale}
 use Rattle.marks.specs.Marks.{stale_in, chosen}
 use Rattle.marks.proofs.Counts.{length_stale, stale_at}
-use Rattle.stale_runs.specs.Steps.{DrawsAll, Swept}
+use Rattle.screens.specs.declared.frame.Frame.{Frame}
+use Rattle.screens.specs.Screens.{screen_of}
+use Rattle.screens.proofs.Screens.{lawful_of_lem}
+use Rattle.stale_runs.specs.Frames.{DrawsOf, SweptOf}
 use Rattle.machine.proofs.Lists.{bool_same, Below, first_from_below}
 use Rattle.stale_runs.proofs.Loops.{draws_none, draws_two}
 use Rattle.machine.proofs.Order.{append_cases, below_of, has_below, first_has, has_first}
@@ -32,27 +34,27 @@ still_clear false x e = e
 
 -- ---- parts
 
-module _ (S : Screen) (w h : ℕ) (q : Clarity) (picture : List ℕ) where
+module _ (f : Frame) where
   -- a mark once some blocks are drawn
-  mark_now : {bs out m out' m' : List ℕ} → DrawsAll S w h q bs picture out m out' m' → (b : ℕ) → get_or m' b 0 ≡ cond (has bs b) 0 (get_or m b 0)
+  mark_now : {bs out m out' m' : List ℕ} → DrawsOf f bs out m out' m' → (b : ℕ) → get_or m' b 0 ≡ cond (has bs b) 0 (get_or m b 0)
   mark_now {bs} {out} {m} d b = ap (λ (l : List ℕ). get_or l b 0) d.marks_now ∙ get_or_set_all bs m b
 
-  pub stays_clear : {bs out m out' m' : List ℕ} → DrawsAll S w h q bs picture out m out' m' → (b : ℕ) → get_or m b 0 ≡ 0 → get_or m' b 0 ≡ 0
+  pub stays_clear : {bs out m out' m' : List ℕ} → DrawsOf f bs out m out' m' → (b : ℕ) → get_or m b 0 ≡ 0 → get_or m' b 0 ≡ 0
   stays_clear {bs} {out} {m} d b e = mark_now d b ∙ still_clear (has bs b) (get_or m b 0) e
 
   -- a part with nothing stale
-  pub swept_none : {R : ℕ → Type 0} (out m : List ℕ) → ((b : ℕ) → R b → get_or m b 0 ≡ 0) → Swept S w h q R picture out m out m
+  pub swept_none : {R : ℕ → Type 0} (out m : List ℕ) → ((b : ℕ) → R b → get_or m b 0 ≡ 0) → SweptOf f R out m out m
   swept_none out m c = record {
     blocks = [];
     inside = λ b e. absurd (false≢true e);
     was_stale = λ b e. absurd (false≢true e);
-    draws = draws_none S w h q picture out m;
+    draws = draws_none f out m;
     clear = c;
   }
 
   -- a part that is all stale
-  pub swept_all : {R : ℕ → Type 0} {bs out m out' m' : List ℕ} → DrawsAll S w h q bs picture out m out' m' → ((b : ℕ) → has bs b ≡ true → R b)
-      → ((b : ℕ) → R b → has bs b ≡ true) → ((b : ℕ) → R b → is_stale (get_or m b 0) ≡ true) → Swept S w h q R picture out m out' m'
+  pub swept_all : {R : ℕ → Type 0} {bs out m out' m' : List ℕ} → DrawsOf f bs out m out' m' → ((b : ℕ) → has bs b ≡ true → R b)
+      → ((b : ℕ) → R b → has bs b ≡ true) → ((b : ℕ) → R b → is_stale (get_or m b 0) ≡ true) → SweptOf f R out m out' m'
   swept_all {R} {bs} {out} {m} d i c s = record {
     blocks = bs;
     inside = i;
@@ -63,13 +65,13 @@ module _ (S : Screen) (w h : ℕ) (q : Clarity) (picture : List ℕ) where
 
   -- two parts, one after the other
   pub swept_two : {R R₁ R₂ : ℕ → Type 0} {out m out' m' out'' m'' : List ℕ} → ((b : ℕ) → R₁ b → R b) → ((b : ℕ) → R₂ b → R b)
-      → ((b : ℕ) → R b → R₁ b ⊎ R₂ b) → Swept S w h q R₁ picture out m out' m' → Swept S w h q R₂ picture out' m' out'' m''
-      → Swept S w h q R picture out m out'' m''
+      → ((b : ℕ) → R b → R₁ b ⊎ R₂ b) → SweptOf f R₁ out m out' m' → SweptOf f R₂ out' m' out'' m''
+      → SweptOf f R out m out'' m''
   swept_two {R} {R₁} {R₂} {out} {m} {out'} {m'} {out''} {m''} one two either s t = record {
     blocks = s.blocks ++ t.blocks;
-    inside = λ b e. ⊎_elim (λ f. one b (s.inside b f)) (λ f. two b (t.inside b f)) (append_cases s.blocks t.blocks b e);
-    was_stale = λ b e. ⊎_elim (s.was_stale b) (λ f. before b (t.was_stale b f)) (append_cases s.blocks t.blocks b e);
-    draws = draws_two S w h q picture s.draws t.draws;
+    inside = λ b e. ⊎_elim (λ u. one b (s.inside b u)) (λ u. two b (t.inside b u)) (append_cases s.blocks t.blocks b e);
+    was_stale = λ b e. ⊎_elim (s.was_stale b) (λ u. before b (t.was_stale b u)) (append_cases s.blocks t.blocks b e);
+    draws = draws_two f s.draws t.draws;
     clear = λ b r. ⊎_elim (λ q. stays_clear t.draws b (s.clear b q)) (t.clear b) (either b r);
   }
     where
@@ -78,7 +80,7 @@ module _ (S : Screen) (w h : ℕ) (q : Clarity) (picture : List ℕ) where
 
   -- the same part, said otherwise
   pub swept_as : {R R' : ℕ → Type 0} {out m out' m' : List ℕ} → ((b : ℕ) → R b → R' b) → ((b : ℕ) → R' b → R b)
-      → Swept S w h q R picture out m out' m' → Swept S w h q R' picture out m out' m'
+      → SweptOf f R out m out' m' → SweptOf f R' out m out' m'
   swept_as to back s = record {
     blocks = s.blocks;
     inside = λ b e. to b (s.inside b e);
@@ -93,14 +95,15 @@ module _ (S : Screen) (w h : ℕ) (q : Clarity) (picture : List ℕ) where
 abbrev pub Run : ℕ → ℕ → ℕ → Type 0
 Run lo hi b = (lo ≤ b) × (b < hi)
 
-pub swept_done : (S : Screen) → Lawful S → (w h : ℕ) (q : Clarity) (lo hi n : ℕ) {picture out m out' m' : List ℕ} → Swept S w h q (Run lo hi) picture out m out' m'
-    → block_words S * (w * h) ≤ length out → lo ≤ hi → hi ≤ w * h → hi ≤ length m → count (stale_in lo hi m) ≤ n
-    → DrawsAll S w h q (chosen lo hi n m) picture out m out' m'
-swept_done S L w h q lo hi n {picture} {out} {m} {out'} {m'} s room up top long few = record {
+pub swept_done : (f : Frame) (lo hi n : ℕ) {out m out' m' : List ℕ} → SweptOf f (Run lo hi) out m out' m'
+    → block_words (screen_of f.scale) * (f.picture.w * f.picture.h) ≤ length out → lo ≤ hi → hi ≤ f.picture.w * f.picture.h → hi ≤ length m
+    → count (stale_in lo hi m) ≤ n → DrawsOf f (chosen lo hi n m) out m out' m'
+swept_done f lo hi n {out} {m} {out'} {m'} s room up top long few = record {
   output_now =
       s.draws.output_now
-      ∙ put_all_same S L w h q (take (w * h) picture) s.blocks (chosen lo hi n m) out
-      (below_of (w * h) s.blocks (λ b e. omega (arith, s.inside b e))) (low (w * h) top) room same;
+      ∙ put_all_same (screen_of f.scale) (lawful_of_lem f.scale) f.picture.w f.picture.h f.clarity
+      (take (f.picture.w * f.picture.h) f.picture.words.now) s.blocks (chosen lo hi n m) out
+      (below_of (f.picture.w * f.picture.h) s.blocks (λ b e. omega (arith, s.inside b e))) (low (f.picture.w * f.picture.h) top) room same;
   marks_now = s.draws.marks_now ∙ set_all_same s.blocks (chosen lo hi n m) m same;
 }
   where
@@ -117,12 +120,12 @@ swept_done S L w h q lo hi n {picture} {out} {m} {out'} {m'} s room up top long 
 
     -- a block that is not drawn would still be stale
     drawn : (b : ℕ) (t : Bool) → has s.blocks b ≡ t → Run lo hi b → is_stale (get_or m b 0) ≡ true → t ≡ true
-    drawn b true q u f = refl
-    drawn b false q u f =
+    drawn b true q u v = refl
+    drawn b false q u v =
         let z : get_or m b 0 ≡ 0 =
         ap (λ (t : Bool). cond t 0 (get_or m b 0)) (sym q) ∙ sym (get_or_set_all s.blocks m b)
         ∙ ap (λ (l : List ℕ). get_or l b 0) (sym s.draws.marks_now) ∙ s.clear b u in
-        ap is_stale (sym z) ∙ f
+        ap is_stale (sym z) ∙ v
 
     back : (b : ℕ) → has (chosen lo hi n m) b ≡ true → has s.blocks b ≡ true
     back b t =

@@ -34,11 +34,12 @@ pub record TileOn (scale w h : ℕ) (t : Grid) : Type 0 where
   pub few_rows : t.rows ≤ rows_of scale
 
 -- the blocks of the last pass, m by m for each of the tile's, are those that the source and the tags give
-pub record Ready (m : ℕ) (last : ℕ → ℕ → List ℕ) (t : Grid) (s : Source) (source tags : List ℕ) : Type 0 where
-  pub along : s.x + m * t.cols ≤ s.w
-  pub down : s.y + m * t.rows ≤ s.h
-  pub held : s.w * s.h ≤ length source
+pub record Ready (m : ℕ) (last : ℕ → ℕ → List ℕ) (t : Grid) (s : Source) (tags : List ℕ) : Type 0 where
+  pub along : s.x + m * t.cols ≤ s.picture.w
+  pub down : s.y + m * t.rows ≤ s.picture.h
+  pub held : s.picture.w * s.picture.h ≤ length s.picture.words.now
   pub tagged : m * t.rows * (4 * (m * t.cols)) ≤ length tags
   pub each : (i j : ℕ) → i < m * t.cols → j < m * t.rows
-      → block_from s.w s.h (words s.w source) (s.x + i) (s.y + j) (tags_at tags (j * (4 * (m * t.cols)) + i * 4))
+      → block_from s.picture.w s.picture.h (words s.picture.w s.picture.words.now) (s.x + i) (s.y + j)
+      (tags_at tags (j * (4 * (m * t.cols)) + i * 4))
       ≡ last (m * t.x0 + i) (m * t.y0 + j)

@@ -2,11 +2,13 @@
 -- of copies in which the words of its tags are stored is its block. Assumes nothing.
 use mathlib.Core.Path.{◌≡◌, refl, sym, ◌∙◌, ap}
 use mathlib.Core.List.{List, [], ◌∷◌}
-use Prim.Native.Nat.{ℕ, zero, suc, ◌+◌, ◌*◌, ◌≤◌, ◌<◌}
+use Prim.Native.Nat.{ℕ, zero, suc, ◌+◌, ◌-◌, ◌*◌, ◌≤◌, ◌<◌}
 use native.Mathlib.Omega.{arith}
 use lib.IntN.{pos}
-use lib.ListN.{length, get_or}
-use Rattle.picture.specs.Fill.{put, length_put, get_or_put, get_or_off, get_or_flat, within}
+use lib.ListN.{length, get_or, drop}
+use lib.Seq.{get_or-take, get_or-drop}
+use borrow.Rule.Slice.PartMut.{mid_of, mid_len}
+use Rattle.picture.specs.Fill.{put, length_put, get_or_put, get_or_off, get_or_flat, flat_same, within}
 use Rattle.picture.specs.Picture.{words}
 use Rattle.grid.proofs.Moves.{stay}
 use Rattle.grid.proofs.Reading.{near_at}
@@ -55,13 +57,18 @@ copied ow at k c l few room i hi =
       bottom = λ j hj. copy_at (at + 2 * ow) k c l₂ i j (at + i * 3 + 2 * ow + j) (omega arith) hi hj (omega arith);
     }
 
-pub below_long : (ow at : ℕ) (s l : List ℕ) → at + 2 * ow + length s ≤ length l → length (thrice_below ow at s l) ≡ length l
-below_long ow at s l room =
-    let l₁ = put at s l in
-    let n₁ : length l₁ ≡ length l = length_put at s l (omega arith) in
-    let l₂ = put (at + ow) s l₁ in
-    let n₂ : length l₂ ≡ length l₁ = length_put (at + ow) s l₁ (omega arith) in
-    length_put (at + 2 * ow) s l₂ (omega arith) ∙ n₂ ∙ n₁
+-- a run of a picture, each of its words three times
+pub run_copies : (w x y k : ℕ) (p : List ℕ) → y * w + x + k ≤ length p
+    → (let part = mid_of (y * w + x) (y * w + x + k - (y * w + x)) p in thrice (length part) (λ j. get_or part j 0))
+    ≡ thrice k (λ j. words w p (x + j) y)
+run_copies w x y k p room =
+    let i = y * w + x in
+    let n : i + k - i ≡ k = omega arith in
+    let part = mid_of i (i + k - i) p in
+    ap (λ (m : ℕ). thrice m (λ j. get_or part j 0)) (mid_len i (i + k) p room ∙ n)
+    ∙ flat_same k _ _ (λ j h.
+    let e : i + j ≡ y * w + (x + j) = omega arith in
+    ap (λ (a : ℕ). a ∷ a ∷ a ∷ []) (get_or-take (i + k - i) (drop i p) j 0 (omega arith) ∙ get_or-drop i p j 0 ∙ ap (λ (m : ℕ). get_or p m 0) e))
 
 -- ---- a block beside others
 
@@ -88,9 +95,9 @@ unfolding tag_word
 pixel_is w h f x y hx hy = near_at f w h x y (pos 0) (pos 0) (stay w x hx) (stay h y hy) refl
 
 -- while the blocks before it are stored, block i is nine copies of its pixel
-pub stands : (w h x y k ow at i : ℕ) (p l₀ l : List ℕ) (blocks : ℕ → List ℕ) → x + k ≤ w → y < h → k * 3 ≤ ow
-    → at + 2 * ow + k * 3 ≤ length l₀ → i < k → Copied ow at k (λ i. words w p (x + i) y) l₀ → Rowed ow at i blocks l₀ l
-    → Plain ow (at + i * 3) (tag_word w h (words w p) (x + i) y 0) l
-stands w h x y k ow at i p l₀ l blocks along down apart room hi c r =
-    rw (r.is, sym (pixel_is w h (words w p) (x + i) y (omega arith) down))
+pub stands : (w h x y k ow at i o : ℕ) (p l₀ l : List ℕ) (blocks : ℕ → List ℕ) → x + k ≤ w → y < h → k * 3 ≤ ow
+    → at + 2 * ow + k * 3 ≤ length l₀ → i < k → o ≡ at + i * 3 → Copied ow at k (λ i. words w p (x + i) y) l₀ → Rowed ow at i blocks l₀ l
+    → Plain ow o (tag_word w h (words w p) (x + i) y 0) l
+stands w h x y k ow at i o p l₀ l blocks along down apart room hi eo c r =
+    rw (eo, r.is, sym (pixel_is w h (words w p) (x + i) y (omega arith) down))
     (plain_kept ow at i (words w p (x + i) y) blocks l₀ (omega arith) (omega arith) (c i hi))

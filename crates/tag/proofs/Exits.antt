@@ -12,12 +12,11 @@ use Rattle.lanes.specs.declared.Pair.{Pair}
 use Rattle.lanes.specs.Lanes.{lanes, word_of, across, down, above, own, after, choose}
 use Rattle.lanes.proofs.Laws.{num, bytewise}
 use Rattle.tag.specs.declared.Neighbors.{Neighbors}
-use Rattle.tag.specs.declared.Near.{Near}
 use Rattle.tag.specs.declared.Tags.{Tags}
 use Rattle.tag.specs.Tag.{active, horizontal, vertical, trace_edges}
 use Rattle.tag.specs.Laws.{none}
 use Rattle.tag.specs.Words.{actives, horizontals, verticals, around_of, level2_of, level3_of, level4_near, level4_of, level5_of, level6_of}
-use Rattle.tag.specs.Words.{far_corners, far_mids, far_of, corners_of, both_of, mids_of, tags_word, split_of, bare_of, nothing, known_of, near_of}
+use Rattle.tag.specs.Words.{far_corners, far_mids, far_of, corners_of, both_of, mids_of, tags_word, split_of, bare_of, nothing, known_of, Near, near_of}
 use Rattle.tag.proofs.Flags as flags
 use Rattle.tag.proofs.Same.{around_sides, same}
 

@@ -1,6 +1,6 @@
 -- The tags of a pixel as the code computes them: the source's levels, for the four corners at once. Definitions only.
 -- `proofs/Same.antt` shows that these are the tags of `trace_edges`.
-use Rattle.std.specs.Prelude.{Bool, cond, ℕ, ◌+◌, ◌*◌, ◌/◌, ◌%◌, eqb}
+use Rattle.std.specs.Prelude.{Bool, true, false, cond, Option, Some, None, ℕ, ◌+◌, ◌*◌, ◌/◌, ◌%◌, eqb}
 use Rattle.std.specs.Int.Bits.{bit_and, bit_or, bit_xor}
 use Rattle.junction.specs.declared.Junctions.{Junctions}
 use Rattle.lanes.specs.declared.Pair.{Pair}
@@ -10,7 +10,6 @@ use Rattle.tag.specs.declared.Neighbors.{Neighbors}
 use Rattle.tag.specs.declared.FarCorners.{FarCorners}
 use Rattle.tag.specs.declared.FarMids.{FarMids}
 use Rattle.tag.specs.declared.Far.{Far}
-use Rattle.tag.specs.declared.Near.{Near}
 use Rattle.tag.specs.Tag.{CENTER, LEFT, LEFT2, RIGHT, RIGHT2, UP, UP2, DOWN, DOWN2}
 
 infixl 35 ◌and◌
@@ -178,8 +177,17 @@ nothing = record { corners = record { first = 0; second = 0; tag = 0 }; mids = r
 unfoldable pub known_of : ℕ → Neighbors → Bool
 known_of e n = eqb ((level4_near e n).h or (level4_near e n).v) 0
 
--- the tags where the neighbours at distance 1 decide them, and 0 elsewhere
+-- the tags where the neighbours at distance 1 decide them, and 0 elsewhere, and whether they do
+pub record Near : Type 0 where
+  pub tags : Tags
+  pub known : Bool
+
 unfoldable pub near_of : Junctions → Junctions → Junctions → Junctions → Junctions → Near
 near_of e l r u d =
     let n = around_of l r u d in
     record { tags = split_of (cond (known_of (word_of e) n) (tags_word (word_of e) n nothing) 0); known = known_of (word_of e) n }
+
+-- what an answer says of them: the tags, or none where what lies farther away counts
+abbrev pub near_answer : Option Tags → Near
+near_answer (Some t) = record { tags = t; known = true }
+near_answer None = record { tags = split_of 0; known = false }

@@ -31,7 +31,7 @@ pub const OWN: u32 = 0x07030501;
 
 pub const AFTER: u32 = 0x05010703;
 
-// Section 5's tag numbers.
+// Section 5's tag numbers. No array, since definitions and theorems name the four.
 #[derive(Clone, Copy)]
 pub struct Tags {
     pub t0: u8,
@@ -51,7 +51,7 @@ pub struct Neighbors {
 }
 
 // What the levels 4 and 6 give to the corner tags: the flags of the first two branches, and the tags of the last four.
-#[derive(Clone, Copy)]
+#[derive(Clone, Copy, Default)]
 pub struct FarCorners {
     pub first: u32,
     pub second: u32,
@@ -59,25 +59,27 @@ pub struct FarCorners {
 }
 
 // What the level 5 gives to the mid-edge tags: the flags of the first branch, the flags and the tags of its own two.
-#[derive(Clone, Copy)]
+#[derive(Clone, Copy, Default)]
 pub struct FarMids {
     pub first: u32,
     pub any: u32,
     pub tag: u32,
 }
 
-// What the pixels two and three away give to the tags.
-#[derive(Clone, Copy)]
+// What the pixels two and three away give to the tags: nothing, the default, where no run of four passes.
+#[derive(Clone, Copy, Default)]
 pub struct Far {
     pub corners: FarCorners,
     pub mids: FarMids,
 }
 
-// The tags of a pixel where those beside it decide them, and whether they do.
+// What lies to the left, to the right, above and below at one distance.
 #[derive(Clone, Copy)]
-pub struct Near {
-    pub tags: Tags,
-    pub known: bool,
+pub struct Cross<T> {
+    pub left: T,
+    pub right: T,
+    pub up: T,
+    pub down: T,
 }
 
 // Whether a pixel has no flag but orientation: its tags are 0 whatever lies around it. Most pixels of a page are so.
@@ -95,7 +97,7 @@ pub struct Offset {
 }
 
 // The nine offsets, by tag.
-const OFFSETS: [Offset; 9] = [
+static OFFSETS: [Offset; 9] = [
     Offset { dx: 0, dy: 0 },
     Offset { dx: -1, dy: 0 },
     Offset { dx: -2, dy: 0 },
@@ -111,9 +113,8 @@ const OFFSETS: [Offset; 9] = [
 pub fn neighbor_offset(tag: u8) -> Offset
     ensures { result ≡ offset_of tag }
 {
-    let i = tag as usize;
-    if i < 9 {
-        return OFFSETS[i];
+    match OFFSETS.get(tag as usize) {
+        Some(offset) => *offset,
+        None => OFFSETS[0],
     }
-    OFFSETS[0]
 }

@@ -9,7 +9,11 @@ use lib.ListN.{length, get_or, set}
 use lib.Seq.{set-get_or, get_or-set_other}
 use borrow.Author.Tests.{eqb-true, ltb-true}
 use Rattle.picture.specs.Fill.{put, length_put, get_or_off, stored3}
+use Rattle.std.specs.Prelude.{Option, None, Some, cond}
+use Rattle.picture.specs.Picture.{words}
 use Rattle.tag.specs.declared.Tags.{Tags}
+use Rattle.tag_words.specs.declared.Pixel.{Pixel}
+use Rattle.tag_words.specs.Pixel.{named, stored, corner_of, mid_of}
 use Rattle.block.specs.Block.{corner, mid, tag_word, block_from}
 use Rattle.block.specs.Drawn.{put_block, Copies, Plain, stored_unless}
 
@@ -38,17 +42,26 @@ three l s c t u v a b d room k kt ku kv =
     ∙ e₃
     ∙ stored3 l s a b d room
 
--- what is stored in a block's rows above leaves the copies below
-pub middle_stands : (ow at c : ℕ) (us l : List ℕ) → length us ≡ 3 → 3 ≤ ow → at + 2 * ow + 3 ≤ length l → Plain ow at c l
-    → Copies (at + ow) c (put at us l)
-middle_stands ow at c us l n wide room k j h = get_or_off at us l (at + ow + j) 0 (omega arith) (λ z. omega arith) ∙ k.middle j h
+-- what is stored in a block's rows above leaves the room and the copies below
+pub middle_stands : (ow at c : ℕ) (us l l' : List ℕ) → l' ≡ put at us l → length us ≡ 3 → 3 ≤ ow → at + 2 * ow + 3 ≤ length l
+    → Plain ow at c l → (at + ow + 3 ≤ length l') × Copies (at + ow) c l'
+middle_stands ow at c us l l' e n wide room k = (
+  omega (arith, ap length e, length_put at us l (omega arith)),
+  λ j h. ap (λ (m : List ℕ). get_or m (at + ow + j) 0) e ∙ get_or_off at us l (at + ow + j) 0 (omega arith) (λ z. omega arith) ∙ k.middle j h,
+)
 
-pub bottom_stands : (ow at c : ℕ) (us vs l : List ℕ) → length us ≡ 3 → length vs ≡ 3 → 3 ≤ ow → at + 2 * ow + 3 ≤ length l → Plain ow at c l
-    → Copies (at + 2 * ow) c (put (at + ow) vs (put at us l))
-bottom_stands ow at c us vs l n m wide room k j h =
-    get_or_off (at + ow) vs (put at us l) (at + 2 * ow + j) 0 (omega (arith, length_put at us l (omega arith))) (λ z. omega arith)
-    ∙ get_or_off at us l (at + 2 * ow + j) 0 (omega arith) (λ z. omega arith)
-    ∙ k.bottom j h
+pub bottom_stands : (ow at c : ℕ) (us vs l l' l'' : List ℕ) → l' ≡ put at us l → l'' ≡ put (at + ow) vs l' → length us ≡ 3 → length vs ≡ 3
+    → 3 ≤ ow → at + 2 * ow + 3 ≤ length l → Plain ow at c l → (at + 2 * ow + 3 ≤ length l'') × Copies (at + 2 * ow) c l''
+bottom_stands ow at c us vs l l' l'' e e' n m wide room k =
+    let long : length l' ≡ length l = ap length e ∙ length_put at us l (omega arith) in (
+      omega (arith, long, ap length e', length_put (at + ow) vs l' (omega (arith, long))),
+      λ j h.
+          ap (λ (m : List ℕ). get_or m (at + 2 * ow + j) 0) e'
+          ∙ get_or_off (at + ow) vs l' (at + 2 * ow + j) 0 (omega (arith, long)) (λ z. omega arith)
+          ∙ ap (λ (m : List ℕ). get_or m (at + 2 * ow + j) 0) e
+          ∙ get_or_off at us l (at + 2 * ow + j) 0 (omega arith) (λ z. omega arith)
+          ∙ k.bottom j h,
+    )
 
 module _ (w h : ℕ) (f : ℕ → ℕ → ℕ) (x y : ℕ) where
   abbrev word : ℕ → ℕ
@@ -90,6 +103,26 @@ module _ (w h : ℕ) (f : ℕ → ℕ → ℕ) (x y : ℕ) where
       let none : Tags = record { t0 = 0; t1 = 0; t2 = 0; t3 = 0 } in
       let e : none ≡ t = λ i. record { t0 = e0 i; t1 = e1 i; t2 = e2 i; t3 = e3 i } in
       corners_row l at 0 0 0 (omega arith) k.top
-      ∙ mids_row l₁ (at + ow) 0 0 (omega arith) (middle_stands ow at (word 0) c l refl wide room k)
-      ∙ corners_row l₂ (at + 2 * ow) 0 0 0 (omega arith) (bottom_stands ow at (word 0) c c l refl refl wide room k)
+      ∙ mids_row l₁ (at + ow) 0 0 (omega arith) (middle_stands ow at (word 0) c l l₁ refl refl wide room k).1
+      ∙ corners_row l₂ (at + 2 * ow) 0 0 0 (omega arith) (bottom_stands ow at (word 0) c c l l₁ l₂ refl refl refl refl wide room k).1
       ∙ ap (λ (t : Tags). put_block ow at (block_from w h f x y t) l) e
+
+-- ---- the same of a pixel's rows, as the code stores them
+
+module _ (p : Pixel) (l : List ℕ) where
+  by_test : (b : Bool) (i c : ℕ) (m : List ℕ) → stored p (cond b None (Some c)) i m ≡ stored_unless b i (named p c) m
+  by_test true i c m = refl
+  by_test false i c m = refl
+
+  pub corners : (s a b d : ℕ) (x y z : Option ℕ) → x ≡ corner_of a → y ≡ mid_of b → z ≡ corner_of d → s + 3 ≤ length l
+      → Copies s (named p 0) l → stored p z (s + 2) (stored p y (s + 1) (stored p x s l))
+      ≡ put s (named p (corner a) ∷ named p (mid b) ∷ named p (corner d) ∷ []) l
+  corners s a b d x y z ex ey ez room k =
+      rw (ex, ey, ez, by_test (eqb a 0) s (corner a) l, by_test (ltb b 9) (s + 1) (mid b), by_test (eqb d 0) (s + 2) (corner d))
+      (corners_row p.picture.w p.picture.h (words p.picture.w p.picture.words.now) p.x p.y l s a b d room k)
+
+  pub mids : (s a d : ℕ) (x z : Option ℕ) → x ≡ mid_of a → z ≡ mid_of d → s + 3 ≤ length l → Copies s (named p 0) l
+      → stored p z (s + 2) (stored p None (s + 1) (stored p x s l)) ≡ put s (named p (mid a) ∷ named p 0 ∷ named p (mid d) ∷ []) l
+  mids s a d x z ex ez room k =
+      rw (ex, ez, by_test (ltb a 9) s (mid a) l, by_test (ltb d 9) (s + 2) (mid d))
+      (mids_row p.picture.w p.picture.h (words p.picture.w p.picture.words.now) p.x p.y l s a d room k)

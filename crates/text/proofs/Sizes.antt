@@ -11,8 +11,7 @@ use lib.ListN.{length, take, drop, length-append, length-take}
 use lib.Seq.{take_at}
 use borrow.Author.Tests.{le-ltb, lt-ltb, eqb-false, ne_eqb}
 use Rattle.page.proofs.Files.{Sound, not_refused, refusal_is, is_sound, w_is, h_is, count_is}
-use Rattle.page.specs.Page.{width, height, words_from, pixels, broken, wide, read_refusal, picture_of, Reads}
-use Rattle.page.specs.declared.PageRead.{PageRead}
+use Rattle.page.specs.Page.{PageRead, width, height, words_from, pixels, broken, wide, read_refusal, picture_of, Reads}
 use Rattle.picture.specs.Fill.{put, flat, length_flat}
 use Rattle.picture.specs.Picture.{words}
 use Rattle.picture.specs.Refusal.{none, side, picture, trailer, long}

@@ -46,17 +46,6 @@ writes_as at s t before after n e f = rw e at f
 pub writes_byte : (at v : ℕ) (l : List ℕ) → at + 1 ≤ length l → Writes at (v ∷ []) l (set l at v) (at + 1)
 writes_byte at v l h = record { next_is = refl; text_is = set_put l at v (omega arith) }
 
--- one byte more of a list
-pub writes_next : (at i : ℕ) (s before mid : List ℕ) → i < length s → at + length s ≤ length before → Writes at (take i s) before mid (at + i)
-    → Writes at (take (i + 1) s) before (set mid (at + i) (get_or s i 0)) (at + (i + 1))
-writes_next at i s before mid h room f =
-    let v = get_or s i 0 in
-    let e : take (i + 1) s ≡ take i s ++ (v ∷ []) = rw (add-one, take-suc s i 0) in
-    let n : at + (i + 1) ≡ at + i + 1 = omega arith in
-    let t = length-take-le i s (omega arith) in
-    let long = writes_long at (take i s) before mid (at + i) (omega arith) f in
-    rw (e, n) (writes_more at (take i s) (v ∷ []) before mid (set mid (at + i) v) (at + i) (at + i + 1) (omega arith) f (writes_byte (at + i) v mid (omega arith)))
-
 -- one chunk more of a run of chunks
 flat_add : (r : ℕ → List ℕ) (k n : ℕ) → length (flat k r) ≤ length (flat (n + k) r)
 flat_add r k zero = omega (arith, ap (λ (m : ℕ). length (flat m r)) (zero-add k))
@@ -187,18 +176,18 @@ pub length_sides : (w h : ℕ) → length (sides_text w h) ≡ length (decimal w
 unfolding sides_text
 length_sides w h = length_line _ ∙ omega (arith, length-append (decimal w) (0x20 ∷ decimal h))
 
-pub writes_sides : (w h : ℕ) (l l₁ l₂ l₃ l₄ : List ℕ) (n₁ n₂ n₃ n₄ : ℕ) → length (sides_text w h) ≤ length l → Writes 0 (decimal w) l l₁ n₁
-    → Writes n₁ (0x20 ∷ []) l₁ l₂ n₂ → Writes n₂ (decimal h) l₂ l₃ n₃ → Writes n₃ (0x0a ∷ []) l₃ l₄ n₄ → Writes 0 (sides_text w h) l l₄ n₄
+pub writes_sides : (at w h : ℕ) (l l₁ l₂ l₃ l₄ : List ℕ) (n₁ n₂ n₃ n₄ : ℕ) → at + length (sides_text w h) ≤ length l → Writes at (decimal w) l l₁ n₁
+    → Writes n₁ (0x20 ∷ []) l₁ l₂ n₂ → Writes n₂ (decimal h) l₂ l₃ n₃ → Writes n₃ (0x0a ∷ []) l₃ l₄ n₄ → Writes at (sides_text w h) l l₄ n₄
 unfolding sides_text line
-writes_sides w h l l₁ l₂ l₃ l₄ n₁ n₂ n₃ n₄ room a b c d =
+writes_sides at w h l l₁ l₂ l₃ l₄ n₁ n₂ n₃ n₄ room a b c d =
     let u = decimal w in
     let v = decimal h in
     let k = length_sides w h in
     let e = length-append u (0x20 ∷ v) in
     let f = length-append (u ++ (0x20 ∷ [])) v in
     let g = length-append u (0x20 ∷ []) in
-    writes_more 0 (u ++ (0x20 ∷ v)) (0x0a ∷ []) l l₃ l₄ n₃ n₄ (omega arith)
-    (rw append_snoc at (writes_more 0 (u ++ (0x20 ∷ [])) v l l₂ l₃ n₂ n₃ (omega arith) (writes_more 0 u (0x20 ∷ []) l l₁ l₂ n₁ n₂ (omega arith) a b) c))
+    writes_more at (u ++ (0x20 ∷ v)) (0x0a ∷ []) l l₃ l₄ n₃ n₄ (omega arith)
+    (rw append_snoc at (writes_more at (u ++ (0x20 ∷ [])) v l l₂ l₃ n₂ n₃ (omega arith) (writes_more at u (0x20 ∷ []) l l₁ l₂ n₁ n₂ (omega arith) a b) c))
     d
 
 pub length_refused : (n : ℕ) → length (refused_text n) ≡ 8 + (length (decimal n) + 1)

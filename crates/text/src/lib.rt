@@ -7,7 +7,8 @@ ghost use Rattle.text.specs.Text.{sides_text, picture_text, refused_text};
 ghost use Rattle.text.specs.Text.{digit as Text·digit};
 ghost use Rattle.text.specs.Writes.{gap, Writes};
 
-// A digit's character.
+// A digit's character. Digits are written by hand: `write!` answers an error where its writer is full, which here never is, and what it
+// writes would have to be shown to be the digits of `specs/Text.antt`, one by one.
 fn digit(d: u32) -> u8
     requires { d < 16 }
     ensures { result ≡ Text·digit d }
@@ -17,43 +18,6 @@ fn digit(d: u32) -> u8
     } else {
         b'a' + (d - 10) as u8
     }
-}
-
-// One byte.
-fn put_byte(byte: u8, text: &mut [u8], at: usize) -> usize
-    requires { at + 1 ≤ length text.old }
-    ensures { Writes at (byte ∷ []) text.old text.new result }
-{
-    text[at] = byte;
-    at + 1
-}
-
-// The bytes of a slice.
-fn put_bytes(bytes: &[u8], text: &mut [u8], at: usize) -> usize
-    requires { at + length bytes.now ≤ length text.old }
-    ensures { Writes at bytes.now text.old text.new result }
-{
-    let mut i: usize = 0;
-    while i < bytes.len() {
-        text[at + i] = bytes[i];
-        i += 1;
-    }
-    at + i
-}
-
-// The last k digits of n in a base.
-fn put_digits(n: u32, base: u32, k: usize, text: &mut [u8], at: usize) -> usize
-    requires { (0 < base) × (base ≤ 16) × (at + k ≤ length text.old) }
-    ensures { Writes at (digits base k n) text.old text.new result }
-{
-    let mut i = k;
-    let mut rest = n;
-    while i > 0 {
-        i -= 1;
-        text[at + i] = digit(rest % base);
-        rest /= base;
-    }
-    at + k
 }
 
 // How many decimal digits a number below 10,000 takes.
@@ -72,64 +36,114 @@ fn places_of(n: u32) -> usize
     4
 }
 
-fn put_decimal(n: u32, text: &mut [u8], at: usize) -> usize
-    requires { at + length (decimal n) ≤ length text.old }
-    ensures { Writes at (decimal n) text.old text.new result }
-{
-    put_digits(n, 10, places_of(n), text, at)
+// A text that is being written into a lent buffer: its bytes stand before the place `at`.
+#[derive(Drop)]
+struct Text<'a> {
+    bytes: &'a mut [u8],
+    at: usize,
 }
 
-// Word i of a row: eight digits, after a space unless it is the first.
-fn put_word(word: u32, i: usize, text: &mut [u8], at: usize) -> usize
-    requires { at + length (gap i ++ hex word) ≤ length text.old }
-    ensures { Writes at (gap i ++ hex word) text.old text.new result }
-{
-    if i == 0 {
-        return put_digits(word, 16, 8, text, at);
+impl<'a> Text<'a> {
+    // One byte.
+    fn put_byte(&mut self, byte: u8)
+        requires { self.old.at + 1 ≤ length self.old.bytes.now }
+        ensures same { self.new.bytes.ghost_name ≡ self.old.bytes.ghost_name }
+        ensures long { length self.new.bytes.now ≡ length self.old.bytes.now }
+        ensures written { Writes self.old.at (byte ∷ []) self.old.bytes.now self.new.bytes.now self.new.at }
+    {
+        self.bytes[self.at] = byte;
+        self.at += 1;
     }
-    let next = put_byte(b' ', text, at);
-    put_digits(word, 16, 8, text, next)
-}
 
-// A row's line.
-fn put_row(words: &[u32], text: &mut [u8], at: usize) -> usize
-    requires { at + length (line (spaced words.now)) ≤ length text.old }
-    ensures { Writes at (line (spaced words.now)) text.old text.new result }
-{
-    let mut next = at;
-    let mut i: usize = 0;
-    while i < words.len() {
-        next = put_word(words[i], i, text, next);
-        i += 1;
+    // The bytes of a slice.
+    fn put_bytes(&mut self, bytes: &[u8])
+        requires { self.old.at + length bytes.now ≤ length self.old.bytes.now }
+        ensures same { self.new.bytes.ghost_name ≡ self.old.bytes.ghost_name }
+        ensures long { length self.new.bytes.now ≡ length self.old.bytes.now }
+        ensures written { Writes self.old.at bytes.now self.old.bytes.now self.new.bytes.now self.new.at }
+    {
+        let next = self.at + bytes.len();
+        self.bytes[self.at..next].copy_from_slice(bytes);
+        self.at = next;
     }
-    put_byte(b'\n', text, next)
-}
 
-// The lines of h rows of w words.
-fn put_rows(w: usize, h: usize, words: &[u32], text: &mut [u8], at: usize) -> usize
-    requires { (h * w ≤ length words.now) × (at + length (rows w h words.now) ≤ length text.old) }
-    ensures { Writes at (rows w h words.now) text.old text.new result }
-{
-    let mut next = at;
-    let mut from: usize = 0;
-    let mut y: usize = 0;
-    while y < h {
-        next = put_row(&words[from..from + w], text, next);
-        from += w;
-        y += 1;
+    // The last k digits of n in a base.
+    fn put_digits(&mut self, n: u32, base: u32, k: usize)
+        requires { (0 < base) × (base ≤ 16) × (self.old.at + k ≤ length self.old.bytes.now) }
+        ensures same { self.new.bytes.ghost_name ≡ self.old.bytes.ghost_name }
+        ensures long { length self.new.bytes.now ≡ length self.old.bytes.now }
+        ensures written { Writes self.old.at (digits base k n) self.old.bytes.now self.new.bytes.now self.new.at }
+    {
+        let mut rest = n;
+        for i in (0..k).rev() {
+            self.bytes[self.at + i] = digit(rest % base);
+            rest /= base;
+        }
+        self.at += k;
     }
-    next
-}
 
-// A picture's first line: its sides.
-fn put_sides(w: u32, h: u32, text: &mut [u8]) -> usize
-    requires { length (sides_text w h) ≤ length text.old }
-    ensures { Writes 0 (sides_text w h) text.old text.new result }
-{
-    let mut next = put_decimal(w, text, 0);
-    next = put_byte(b' ', text, next);
-    next = put_decimal(h, text, next);
-    put_byte(b'\n', text, next)
+    fn put_decimal(&mut self, n: u32)
+        requires { self.old.at + length (decimal n) ≤ length self.old.bytes.now }
+        ensures same { self.new.bytes.ghost_name ≡ self.old.bytes.ghost_name }
+        ensures long { length self.new.bytes.now ≡ length self.old.bytes.now }
+        ensures written { Writes self.old.at (decimal n) self.old.bytes.now self.new.bytes.now self.new.at }
+    {
+        self.put_digits(n, 10, places_of(n));
+    }
+
+    // Word i of a row: eight digits, after a space unless it is the first.
+    fn put_word(&mut self, word: u32, i: usize)
+        requires { self.old.at + length (gap i ++ hex word) ≤ length self.old.bytes.now }
+        ensures same { self.new.bytes.ghost_name ≡ self.old.bytes.ghost_name }
+        ensures long { length self.new.bytes.now ≡ length self.old.bytes.now }
+        ensures written { Writes self.old.at (gap i ++ hex word) self.old.bytes.now self.new.bytes.now self.new.at }
+    {
+        if i == 0 {
+            self.put_digits(word, 16, 8);
+        } else {
+            self.put_byte(b' ');
+            self.put_digits(word, 16, 8);
+        }
+    }
+
+    // A row's line.
+    fn put_row(&mut self, words: &[u32])
+        requires { self.old.at + length (line (spaced words.now)) ≤ length self.old.bytes.now }
+        ensures same { self.new.bytes.ghost_name ≡ self.old.bytes.ghost_name }
+        ensures long { length self.new.bytes.now ≡ length self.old.bytes.now }
+        ensures written { Writes self.old.at (line (spaced words.now)) self.old.bytes.now self.new.bytes.now self.new.at }
+    {
+        for (i, word) in words.iter().enumerate() {
+            self.put_word(*word, i);
+        }
+        self.put_byte(b'\n');
+    }
+
+    // The lines of h rows of w words.
+    fn put_rows(&mut self, w: usize, h: usize, words: &[u32])
+        requires { (h * w ≤ length words.now) × (self.old.at + length (rows w h words.now) ≤ length self.old.bytes.now) }
+        ensures same { self.new.bytes.ghost_name ≡ self.old.bytes.ghost_name }
+        ensures long { length self.new.bytes.now ≡ length self.old.bytes.now }
+        ensures written { Writes self.old.at (rows w h words.now) self.old.bytes.now self.new.bytes.now self.new.at }
+    {
+        for y in 0..h {
+            let from = y * w;
+            self.put_row(&words[from..from + w]);
+        }
+    }
+
+    // A picture's first line: its sides.
+    fn put_sides(&mut self, w: u32, h: u32)
+        requires { self.old.at + length (sides_text w h) ≤ length self.old.bytes.now }
+        ensures same { self.new.bytes.ghost_name ≡ self.old.bytes.ghost_name }
+        ensures long { length self.new.bytes.now ≡ length self.old.bytes.now }
+        ensures written { Writes self.old.at (sides_text w h) self.old.bytes.now self.new.bytes.now self.new.at }
+    {
+        self.put_decimal(w);
+        self.put_byte(b' ');
+        self.put_decimal(h);
+        self.put_byte(b'\n');
+    }
 }
 
 // A picture's sides and rows.
@@ -137,16 +151,20 @@ pub fn put_picture(w: u32, h: u32, words: &[u32], text: &mut [u8]) -> usize
     requires { (h * w ≤ length words.now) × (length (picture_text w h words.now) ≤ length text.old) }
     ensures { Writes 0 (picture_text w h words.now) text.old text.new result }
 {
-    let next = put_sides(w, h, text);
-    put_rows(w as usize, h as usize, words, text, next)
+    let mut t = Text { bytes: text, at: 0 };
+    t.put_sides(w, h);
+    t.put_rows(w as usize, h as usize, words);
+    t.at
 }
 
-// A refusal's line.
+// A refusal's line. It takes the number, as it promises the line of every number.
 pub fn put_refused(number: u32, text: &mut [u8]) -> usize
     requires { length (refused_text number) ≤ length text.old }
     ensures { Writes 0 (refused_text number) text.old text.new result }
 {
-    let mut next = put_bytes(b"refused ", text, 0);
-    next = put_decimal(number, text, next);
-    put_byte(b'\n', text, next)
+    let mut t = Text { bytes: text, at: 0 };
+    t.put_bytes(b"refused ");
+    t.put_decimal(number);
+    t.put_byte(b'\n');
+    t.at
 }

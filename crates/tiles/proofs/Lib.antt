@@ -1,2 +1,3 @@
 mod Tagged
 mod Ring
+pub mod Shown

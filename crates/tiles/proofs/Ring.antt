@@ -1,6 +1,6 @@
 -- The pixels within two of a tile of the nine-times screen: they are few, and of the first result their words are a window from which the
 -- second pass draws the tile as from the whole. Assumes nothing.
-use mathlib.Core.Path.{◌≡◌, sym, subst}
+use mathlib.Core.Path.{◌≡◌, sym, ap, subst}
 use mathlib.Core.List.{List}
 use Prim.Native.Nat.{ℕ, ◌+◌, ◌-◌, ◌*◌, ◌≤◌, ◌<◌}
 use native.Mathlib.Nat.{mul-le-mul}
@@ -16,6 +16,10 @@ use Rattle.block.specs.Store.{put_rect}
 use Rattle.block.specs.StoreLaws.{rect_long}
 use Rattle.nine.specs.Nine.{enlarged}
 use Rattle.nine.proofs.Second.{tile_second, window_words_lem}
+use Rattle.machine.specs.Screen.{Screen}
+use Rattle.screens.specs.declared.frame.Frame.{Frame}
+use Rattle.screens.specs.Screens.{screen_of}
+use Rattle.screens.proofs.Screens.{is_nine}
 use Rattle.stale_runs.specs.Tiles.{TileOn, columns_of, rows_of}
 
 -- how many words the window of a tile of the nine-times screen has
@@ -123,3 +127,18 @@ module _ {w h : ℕ} {t g : Grid} (k : TileOn 9 w h t) (wide : w ≤ 682) (high 
     second_drawn =
         subst Second (sym e) (λ over. tile_second q w h f t.x0 t.y0 t.cols t.rows k.along k.down _ over)
         (window_words_lem q w h f g.x0 g.y0 g.cols g.rows l window (omega (arith, first_room, full)) first)
+
+-- a tile of a frame of the nine-times screen
+pub record NineTile (f : Frame) (t : Grid) : Type 0 where
+  pub on : TileOn 9 f.picture.w f.picture.h t
+  pub wide : f.picture.w ≤ 682
+  pub high : f.picture.h ≤ 682
+
+pub nine_tile : (f : Frame) (t : Grid) → f.scale ≡ 9 → TileOn f.scale f.picture.w f.picture.h t → NineTile f t
+nine_tile f t e k =
+    let side : (screen_of f.scale).side ≡ 682 = ap (λ (S : Screen). S.side) (is_nine f.scale e) in
+    record {
+      on = subst (λ (n : ℕ). TileOn n f.picture.w f.picture.h t) e k;
+      wide = omega (arith, f.wide, side);
+      high = omega (arith, f.high, side);
+    }

@@ -14,10 +14,16 @@ use Rattle.block.specs.Block.{picture_tags, block_from, block_of}
 use Rattle.passes.specs.Window.{Tile, TileTagged, tile_junctions, tile_bytes}
 use Rattle.block.specs.Store.{put_rect, RectRoom}
 use Rattle.block.specs.StoreLaws.{rect_same}
+use Rattle.stale_runs.specs.declared.Source.{Source}
 use Rattle.stale_runs.specs.Tiles.{Ready}
 
-module _ (q : Clarity) (w h x y k r : ℕ) (p b b' : List ℕ) (tagged : TileTagged q w h (words w p) x y k r b b') (tile : Tile w h x y k r)
-    (full : length b ≡ tile_bytes) where
+module _ (q : Clarity) (s : Source) (k r : ℕ) (b b' : List ℕ)
+    (tagged : TileTagged q s.picture.w s.picture.h (words s.picture.w s.picture.words.now) s.x s.y k r b b')
+    (tile : Tile s.picture.w s.picture.h s.x s.y k r) (full : length b ≡ tile_bytes) where
+  -- the source's words, as they are read
+  abbrev at : ℕ → ℕ → ℕ
+  at = words s.picture.w s.picture.words.now
+
   -- the bytes from the tags on
   abbrev tags : List ℕ
   tags = take 768 (drop tile_junctions b')
@@ -38,25 +44,25 @@ module _ (q : Clarity) (w h x y k r : ℕ) (p b b' : List ℕ) (tagged : TileTag
       omega (arith, mul-le-mul tile.few_rows c)
 
   -- a pixel's tags
-  each : (i j n : ℕ) → i < k → j < r → n ≡ j * (4 * k) + i * 4 → tags_at tags n ≡ picture_tags q w h (words w p) (x + i) (y + j)
+  each : (i j n : ℕ) → i < k → j < r → n ≡ j * (4 * k) + i * 4 → tags_at tags n ≡ picture_tags q s.picture.w s.picture.h at (s.x + i) (s.y + j)
   each i j n hi hj e =
-      let at : n ≡ (j * k + i) * 4 = omega (arith, e, mul_left_comm j 4 k) in
-      ap (λ (l : List ℕ). tags_at l n) rest ∙ ap (tags_at (drop tile_junctions b')) at ∙ tagged.each i j hi hj
+      let place : n ≡ (j * k + i) * 4 = omega (arith, e, mul_left_comm j 4 k) in
+      ap (λ (l : List ℕ). tags_at l n) rest ∙ ap (tags_at (drop tile_junctions b')) place ∙ tagged.each i j hi hj
 
   -- the blocks by those tags are the picture's
   block : (i j n : ℕ) → i < k → j < r → n ≡ j * (4 * k) + i * 4
-      → block_from w h (words w p) (x + i) (y + j) (tags_at tags n) ≡ block_of q w h (words w p) (x + i) (y + j)
+      → block_from s.picture.w s.picture.h at (s.x + i) (s.y + j) (tags_at tags n) ≡ block_of q s.picture.w s.picture.h at (s.x + i) (s.y + j)
   unfolding block_of
-  block i j n hi hj e = ap (block_from w h (words w p) (x + i) (y + j)) (each i j n hi hj e)
+  block i j n hi hj e = ap (block_from s.picture.w s.picture.h at (s.x + i) (s.y + j)) (each i j n hi hj e)
 
-  -- they make a tile of m by m pixels for each block ready
-  pub ready : (m : ℕ) (last : ℕ → ℕ → List ℕ) (t : Grid) → m * t.cols ≡ k → m * t.rows ≡ r → w * h ≤ length p
-      → ((i j : ℕ) → i < k → j < r → block_of q w h (words w p) (x + i) (y + j) ≡ last (m * t.x0 + i) (m * t.y0 + j))
-      → Ready m last t (record { w = w; h = h; x = x; y = y }) p tags
-  ready m last t ek er held e = record {
+  -- they make a tile that the source shows ready
+  pub ready : (m : ℕ) (last : ℕ → ℕ → List ℕ) (t : Grid) → m * t.cols ≡ k → m * t.rows ≡ r
+      → ((i j : ℕ) → i < k → j < r → block_of q s.picture.w s.picture.h at (s.x + i) (s.y + j) ≡ last (m * t.x0 + i) (m * t.y0 + j))
+      → Ready m last t s tags
+  ready m last t ek er e = record {
     along = omega (arith, tile.along, ek);
     down = omega (arith, tile.down, er);
-    held = held;
+    held = s.picture.whole;
     tagged = rw (ek, er) (omega (arith, all, long));
     each = λ i j hi hj.
         let ci : i < k = omega (arith, hi, ek) in
@@ -65,13 +71,14 @@ module _ (q : Clarity) (w h x y k r : ℕ) (p b b' : List ℕ) (tagged : TileTag
   }
 
   -- and all of its blocks can be stored side by side
-  pub rect_room : (o : ℕ) → w * h ≤ length p → r * (3 * (3 * k)) ≤ o → RectRoom w h x y k r 0 (k * 4) (length p) (length tags) (3 * k) 0 o
-  rect_room o held room =
+  pub rect_room : (o : ℕ) → r * (3 * (3 * k)) ≤ o
+      → RectRoom s.picture.w s.picture.h s.x s.y k r 0 (k * 4) (s.picture.w * s.picture.h) (length tags) (3 * k) 0 o
+  rect_room o room =
       let e : r * (k * 4) ≡ r * (4 * k) = ap (λ (n : ℕ). r * n) (omega arith) in
       record {
         along = tile.along;
         down = tile.down;
-        picture = held;
+        picture = omega arith;
         tags = omega (arith, all, e, long);
         apart = omega arith;
         words = omega (arith, room);
@@ -79,10 +86,10 @@ module _ (q : Clarity) (w h x y k r : ℕ) (p b b' : List ℕ) (tagged : TileTag
         long = omega (arith, tile.few_columns);
       }
 
-  pub rect_drawn : (ow at : ℕ) (l : List ℕ)
-      → put_rect ow at k r (λ i j. block_from w h (words w p) (x + i) (y + j) (tags_at tags (0 + j * (k * 4) + i * 4))) l
-      ≡ put_rect ow at k r (λ i j. block_of q w h (words w p) (x + i) (y + j)) l
-  rect_drawn ow at l =
-      rect_same ow at k r _ _ l (λ i j hi hj.
+  pub rect_drawn : (ow o : ℕ) (l : List ℕ)
+      → put_rect ow o k r (λ i j. block_from s.picture.w s.picture.h at (s.x + i) (s.y + j) (tags_at tags (j * (k * 4) + i * 4))) l
+      ≡ put_rect ow o k r (λ i j. block_of q s.picture.w s.picture.h at (s.x + i) (s.y + j)) l
+  rect_drawn ow o l =
+      rect_same ow o k r _ _ l (λ i j hi hj.
       let e : j * (k * 4) ≡ j * (4 * k) = ap (λ (n : ℕ). j * n) (omega arith) in
-      block i j (0 + j * (k * 4) + i * 4) hi hj (omega (arith, e)))
+      block i j (j * (k * 4) + i * 4) hi hj (omega (arith, e)))

@@ -3,18 +3,19 @@
 
 ghost use Rattle.std.specs.Prelude.{◌≡◌};
 ghost use Rattle.tag.specs.Tag.{trace_edges};
-ghost use Rattle.tag.specs.Words.{corners_of, both_of, mids_of, tags_word, split_of, near_of};
+ghost use Rattle.tag.specs.Words.{corners_of, both_of, mids_of, tags_word, split_of, near_of, near_answer};
 
 use junction::Junctions;
 use lanes::{ONES, Pair, above, across, after, choose, down, opposite, own, word};
-use level::{around, farther, level2, level3, level4_near, nothing};
+use level::{around, farther, level2, level3, level4_near};
 use tag::{
-    AFTER, FAR_H, FAR_V, FIRST_END, Far, FarCorners, FarMids, NEAR_H, NEAR_V, Near, Neighbors,
+    AFTER, Cross, FAR_H, FAR_V, FIRST_END, Far, FarCorners, FarMids, NEAR_H, NEAR_V, Neighbors,
     OUTWARD, OWN, SECOND_END, Tags,
 };
 
 // The corner tags, from the pixel's own flags, level 3 and what lies farther away: a corner takes the first of the source's branches that
 // holds there.
+#[tactic(auto, unfolding(tag::specs::Words::corners_of, lanes::specs::Lanes::lanes))]
 fn corners(e: u32, l3: Pair, f: FarCorners) -> u32
     ensures { result ≡ corners_of e l3 f }
 {
@@ -27,6 +28,7 @@ fn corners(e: u32, l3: Pair, f: FarCorners) -> u32
 }
 
 // The last branch of the mid-edge tags: both corners of the side are active, and so is the one across from each.
+#[tactic(auto, unfolding(tag::specs::Words::both_of, lanes::specs::Lanes::lanes))]
 fn both(e: u32, n: Neighbors, o1: u32, o2: u32) -> u32
     ensures { result ≡ both_of e n o1 o2 }
 {
@@ -41,6 +43,7 @@ fn both(e: u32, n: Neighbors, o1: u32, o2: u32) -> u32
 
 // The mid-edge tags, in the same way. The source's [i][0] is the side's own corner at the top and on the right, the one after it at the
 // bottom and on the left.
+#[tactic(auto, unfolding(tag::specs::Words::mids_of, lanes::specs::Lanes::lanes))]
 fn mids(e: u32, l2: Pair, n: Neighbors, f: FarMids) -> u32
     ensures { result ≡ mids_of e l2 n f }
 {
@@ -64,6 +67,7 @@ fn mids(e: u32, l2: Pair, n: Neighbors, f: FarMids) -> u32
 }
 
 // c + 9m in each byte. In 64 bits and modulo 2 ^ 32, so that the sum asks no bound of its parts.
+#[tactic(auto, unfolding(tag::specs::Words::tags_word))]
 fn tags_word(e: u32, n: Neighbors, f: Far) -> u32
     ensures { result ≡ tags_word e n f }
 {
@@ -77,6 +81,7 @@ fn tags_word(e: u32, n: Neighbors, f: Far) -> u32
 }
 
 // The tags that a word holds, one in each byte.
+#[tactic(auto, unfolding(tag::specs::Words::split_of))]
 fn split(t: u32) -> Tags
     ensures { result ≡ split_of t }
 {
@@ -89,54 +94,37 @@ fn split(t: u32) -> Tags
 }
 
 // The tags of a pixel, from its junctions and those beside it. What lies two and three pixels away counts only where a run of four may
-// pass: there the tags are left at 0, for `trace_edges` to find.
-pub fn trace_near(e: Junctions, dl: Junctions, dr: Junctions, du: Junctions, dd: Junctions) -> Near
-    ensures { result ≡ near_of e dl dr du dd }
+// pass: there the answer is None, for `trace_edges` to find the tags.
+pub fn trace_near(e: Junctions, near: Cross<Junctions>) -> Option<Tags>
+    ensures { near_answer result ≡ near_of e near.left near.right near.up near.down }
 {
     let w = word(e);
-    let n = around(dl, dr, du, dd);
+    let n = around(near);
     let p = level4_near(w, n);
     if (p.h | p.v) != 0 {
-        return Near {
-            tags: split(0),
-            known: false,
-        };
+        return None;
     }
     // No own corner is active.
     if w & ONES == 0 {
-        return Near {
-            tags: split(0),
-            known: true,
-        };
+        return Some(split(0));
     }
-    let f = nothing();
-    Near {
-        tags: split(tags_word(w, n, f)),
-        known: true,
-    }
+    let f = Far::default();
+    Some(split(tags_word(w, n, f)))
 }
 
-// The tags of a pixel, from its junctions and those to the left, right, above and below out to distance 3.
+// The tags of a pixel, from its junctions and those to the left, right, above and below at the distances 1, 2 and 3.
 pub fn trace_edges(
     e: Junctions,
-    dl: Junctions,
-    dl2: Junctions,
-    dl3: Junctions,
-    dr: Junctions,
-    dr2: Junctions,
-    dr3: Junctions,
-    du: Junctions,
-    du2: Junctions,
-    du3: Junctions,
-    dd: Junctions,
-    dd2: Junctions,
-    dd3: Junctions,
+    d1: Cross<Junctions>,
+    d2: Cross<Junctions>,
+    d3: Cross<Junctions>,
 ) -> Tags
-    ensures { result ≡ trace_edges e dl dl2 dl3 dr dr2 dr3 du du2 du3 dd dd2 dd3 }
+    ensures { result
+        ≡ trace_edges e d1.left d2.left d3.left d1.right d2.right d3.right d1.up d2.up d3.up d1.down d2.down d3.down }
 {
     let w = word(e);
-    let n = around(dl, dr, du, dd);
+    let n = around(d1);
     let p = level4_near(w, n);
-    let f = farther(p, n, dl2, dr2, du2, dd2, dl3, dr3, du3, dd3);
+    let f = farther(p, n, d2, d3);
     split(tags_word(w, n, f))
 }

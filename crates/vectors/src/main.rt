@@ -10,39 +10,26 @@ mod recorded;
 mod replay;
 mod tally;
 
+use replay::Buffers;
 use std::io;
+use tally::Tally;
 
 fn main(rt: HostRuntime) -> io::Result<()> {
-    let mut picture: [u32; 1024] = [0; 1024];
-    let mut output: [u32; 82944] = [0; 82944];
-    let mut middle: [u32; 9216] = [0; 9216];
-    let mut singles: [f32; 73728] = [0.0; 73728];
-    let mut bytes: [u8; 73728] = [0; 73728];
+    let mut picture = [0; 1024];
+    let mut lent = Buffers {
+        output: [0; 82944],
+        middle: [0; 9216],
+        singles: [0.0; 73728],
+        bytes: [0; 73728],
+    };
     let mut input = rt.stdin();
+    let mut t = Tally::new();
     let n = recorded::next(&mut input)?;
-    let mut t = tally::none();
     for _ in 0..n {
         let p = recorded::next_head(&mut input)?;
         recorded::fill(&mut input, &mut picture, p.n)?;
-        t = replay::three_times(
-            &mut input,
-            t,
-            p,
-            &picture,
-            &mut output,
-            &mut singles,
-            &mut bytes,
-        )?;
-        t = replay::nine_times(
-            &mut input,
-            t,
-            p,
-            &picture,
-            &mut output,
-            &mut middle,
-            &mut singles,
-            &mut bytes,
-        )?;
+        replay::three_times(&mut input, &mut t, p, &picture, &mut lent)?;
+        replay::nine_times(&mut input, &mut t, p, &picture, &mut lent)?;
     }
-    tally::print(&rt, t)
+    println!(rt; "{t}")
 }

@@ -1,28 +1,14 @@
 // The words of the recording, one after the other from standard input.
-ghost use Rattle.std.specs.Prelude.{◌<◌};
-
 use std::io;
 use std::io::{ErrorKind, Read};
 
-// A byte as a word.
-pub fn wide(x: u8) -> u32
-    ensures { result < 256 }
-{
-    x as u32
-}
-
 // The next word; 0 past the end of the recording.
 pub fn next(input: &mut impl Read) -> io::Result<u32> {
-    let mut b: [u8; 4] = [0; 4];
+    let mut b = [0; 4];
     match input.read_exact(&mut b) {
+        Err(e) if e.kind() == ErrorKind::UnexpectedEof => Ok(0),
+        Err(e) => Err(e),
         Ok(()) => Ok(u32::from_le_bytes(b)),
-        Err(e) => {
-            if e.kind() == ErrorKind::UnexpectedEof {
-                Ok(0)
-            } else {
-                Err(e)
-            }
-        }
     }
 }
 
@@ -37,28 +23,20 @@ pub struct Head {
 
 // The head of the next picture.
 pub fn next_head(input: &mut impl Read) -> io::Result<Head> {
-    let form = next(input)?;
+    let full = next(input)? == 1;
     let w = next(input)?;
     let h = next(input)?;
     let n = next(input)?;
-    Ok(Head {
-        full: form == 1,
-        w,
-        h,
-        n,
-    })
-}
-
-fn put(words: &mut [u32], i: usize, word: u32) {
-    if i < words.len() {
-        words[i] = word;
-    }
+    Ok(Head { full, w, h, n })
 }
 
 // The next n words, as far as there is room for them.
 pub fn fill(input: &mut impl Read, words: &mut [u32], n: u32) -> io::Result<()> {
-    for i in 0..n {
-        put(words, i as usize, next(input)?);
+    for i in 0..n as usize {
+        let word = next(input)?;
+        if i < words.len() {
+            words[i] = word;
+        }
     }
     Ok(())
 }

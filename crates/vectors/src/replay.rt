@@ -1,131 +1,107 @@
 // One picture of the recording through the whole-picture calls at the standard setting, compared in every bit.
-use crate::recorded;
 use crate::recorded::Head;
 use crate::tally::Tally;
 use clarity::Clarity;
 use std::io;
 use std::io::Read;
+use std::ops::Range;
 
-// The pattern of a single; for what is not a number, the pattern that stands for all such.
-fn pattern(x: f32) -> u32 {
-    if x == x {
-        return f32::to_bits(x);
-    }
-    0x7fc0_0000
+// What the calls write. The middle is that of nine-times alone.
+#[derive(Drop)]
+pub struct Buffers {
+    pub output: [u32; 82944],
+    pub middle: [u32; 9216],
+    pub singles: [f32; 73728],
+    pub bytes: [u8; 73728],
 }
 
-// An element of a buffer as a word; 0 past the buffer's end.
-fn single_at(singles: &[f32], i: usize) -> u32 {
-    if i < singles.len() {
-        return pattern(singles[i]);
-    }
-    0
+// An element of a buffer as a recorded word.
+trait Word: Copy {
+    fn word(self) -> u32;
 }
 
-fn byte_at(bytes: &[u8], i: usize) -> u32 {
-    if i < bytes.len() {
-        return recorded::wide(bytes[i]);
+impl Word for u32 {
+    fn word(self) -> u32 {
+        self
     }
-    0
 }
 
-fn word_at(words: &[u32], i: usize) -> u32 {
-    if i < words.len() {
-        return words[i];
+impl Word for u8 {
+    fn word(self) -> u32 {
+        u32::from(self)
     }
-    0
 }
 
-// The elements from `from` below `end`: one part of the recording.
-fn singles_of(
+// The pattern; for what is not a number, the pattern that stands for all such.
+impl Word for f32 {
+    fn word(self) -> u32 {
+        if self == self {
+            return self.to_bits();
+        }
+        0x7fc0_0000
+    }
+}
+
+// The elements of a range: one part of the recording. Past the buffer's end they count as 0.
+fn part<T: Word>(
     input: &mut impl Read,
-    t: Tally,
-    singles: &[f32],
-    from: usize,
-    end: usize,
-) -> io::Result<Tally> {
-    let mut u = t;
-    for i in from..end {
-        u = u.value(input, single_at(singles, i))?;
+    t: &mut Tally,
+    buffer: &[T],
+    range: Range<usize>,
+) -> io::Result<()> {
+    for i in range {
+        let word = if i < buffer.len() {
+            buffer[i].word()
+        } else {
+            0
+        };
+        t.value(input, word)?;
     }
-    u.part(input)
+    t.part(input)
 }
 
-fn bytes_of(
-    input: &mut impl Read,
-    t: Tally,
-    bytes: &[u8],
-    from: usize,
-    end: usize,
-) -> io::Result<Tally> {
-    let mut u = t;
-    for i in from..end {
-        u = u.value(input, byte_at(bytes, i))?;
-    }
-    u.part(input)
-}
-
-fn words_of(input: &mut impl Read, t: Tally, words: &[u32], end: usize) -> io::Result<Tally> {
-    let mut u = t;
-    for i in 0..end {
-        u = u.value(input, word_at(words, i))?;
-    }
-    u.part(input)
-}
-
-// The stages of n pixels and their output.
-fn stages(
-    input: &mut impl Read,
-    t: Tally,
-    n: u32,
-    output: &[u32],
-    singles: &[f32],
-    bytes: &[u8],
-) -> io::Result<Tally> {
-    let pixels = n as usize;
-    let a = singles_of(input, t, singles, 0, 4 * pixels)?;
-    let b = singles_of(input, a, singles, 4 * pixels, 8 * pixels)?;
-    let c = bytes_of(input, b, bytes, 0, 4 * pixels)?;
-    let d = bytes_of(input, c, bytes, 4 * pixels, 8 * pixels)?;
-    words_of(input, d, output, 9 * pixels)
-}
-
-// The picture enlarged three times.
+// The picture enlarged three times: its stages and its output.
 pub fn three_times(
     input: &mut impl Read,
-    t: Tally,
+    t: &mut Tally,
     p: Head,
     picture: &[u32],
-    output: &mut [u32],
-    singles: &mut [f32],
-    bytes: &mut [u8],
-) -> io::Result<Tally> {
-    let refusal = whole::scale(p.w, p.h, Clarity::Standard, picture, output, singles, bytes);
-    stages(
-        input,
-        t.picture(p.full, refusal),
-        p.n,
+    lent: &mut Buffers,
+) -> io::Result<()> {
+    let Buffers {
         output,
         singles,
         bytes,
-    )
+        ..
+    } = lent;
+    let answer = whole::scale(p.w, p.h, Clarity::Standard, picture, output, singles, bytes);
+    t.picture(p.full, answer);
+    let n = p.n as usize;
+    part(input, t, singles, 0..4 * n)?;
+    part(input, t, singles, 4 * n..8 * n)?;
+    part(input, t, bytes, 0..4 * n)?;
+    part(input, t, bytes, 4 * n..8 * n)?;
+    part(input, t, output, 0..9 * n)
 }
 
 // The picture enlarged nine times, where it is recorded by digests.
 pub fn nine_times(
     input: &mut impl Read,
-    t: Tally,
+    t: &mut Tally,
     p: Head,
     picture: &[u32],
-    output: &mut [u32],
-    middle: &mut [u32],
-    singles: &mut [f32],
-    bytes: &mut [u8],
-) -> io::Result<Tally> {
+    lent: &mut Buffers,
+) -> io::Result<()> {
     if p.full {
-        return Ok(t);
+        return Ok(());
     }
-    let refusal = whole::scale9x(
+    let Buffers {
+        output,
+        middle,
+        singles,
+        bytes,
+    } = lent;
+    let answer = whole::scale9x(
         p.w,
         p.h,
         Clarity::Standard,
@@ -135,5 +111,6 @@ pub fn nine_times(
         singles,
         bytes,
     );
-    words_of(input, t.called(refusal), output, 81 * (p.n as usize))
+    t.called(answer);
+    part(input, t, output, 0..81 * (p.n as usize))
 }

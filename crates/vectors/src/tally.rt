@@ -1,7 +1,8 @@
 // What was compared so far, and the digest of the part that is being compared.
 use crate::recorded;
-use std::io;
+use picture::refusal::Refusal;
 use std::io::Read;
+use std::{fmt, io};
 
 #[derive(Clone, Copy)]
 pub struct Tally {
@@ -17,78 +18,74 @@ pub struct Tally {
 // FNV-1a, over words in place of bytes.
 const START: u32 = 2166136261;
 
-fn xor(a: u32, b: u32) -> u32 {
-    a ^ b
-}
-
-fn mixed(digest: u32, word: u32) -> u32 {
-    (xor(digest, word) as u64 * 16777619 % 4294967296) as u32
-}
-
-fn sum(a: u64, b: u64) -> u64 {
-    a.wrapping_add(b)
-}
-
-fn unequal(a: u32, b: u32) -> u64 {
-    if a == b { 0 } else { 1 }
-}
-
-// Nothing compared so far.
-pub fn none() -> Tally {
-    Tally {
-        full: false,
-        digest: START,
-        pictures: 0,
-        values: 0,
-        digests: 0,
-        differences: 0,
-    }
-}
+const FACTOR: u32 = 16777619;
 
 impl Tally {
+    // Nothing compared so far.
+    pub fn new() -> Tally {
+        Tally {
+            full: false,
+            digest: START,
+            pictures: 0,
+            values: 0,
+            digests: 0,
+            differences: 0,
+        }
+    }
+
+    // A difference where this holds.
+    fn differs(&mut self, so: bool) {
+        self.differences = self.differences.wrapping_add(u64::from(so));
+    }
+
     // A call answered; a refusal is a difference.
-    pub fn called(mut self, refusal: u32) -> Tally {
-        self.differences = sum(self.differences, unequal(refusal, 0));
-        self
+    pub fn called(&mut self, answer: Result<(), Refusal>) {
+        self.differs(answer.is_err());
     }
 
     // A picture begins, with the answer of its first call.
-    pub fn picture(mut self, full: bool, refusal: u32) -> Tally {
+    pub fn picture(&mut self, full: bool, answer: Result<(), Refusal>) {
         self.full = full;
-        self.pictures = sum(self.pictures, 1);
-        self.called(refusal)
+        self.pictures = self.pictures.wrapping_add(1);
+        self.called(answer);
     }
 
     // One value: beside the next recorded one, or into the digest.
-    pub fn value(mut self, input: &mut impl Read, word: u32) -> io::Result<Tally> {
+    pub fn value(&mut self, input: &mut impl Read, word: u32) -> io::Result<()> {
         if self.full {
-            self.values = sum(self.values, 1);
-            self.differences = sum(self.differences, unequal(word, recorded::next(input)?));
+            self.values = self.values.wrapping_add(1);
+            self.differs(word != recorded::next(input)?);
         } else {
-            self.digest = mixed(self.digest, word);
+            self.digest = (self.digest ^ word).wrapping_mul(FACTOR);
         }
-        Ok(self)
+        Ok(())
     }
 
     // A part ends: its digest beside the next recorded one.
-    pub fn part(mut self, input: &mut impl Read) -> io::Result<Tally> {
+    pub fn part(&mut self, input: &mut impl Read) -> io::Result<()> {
         if self.full {
-            return Ok(self);
+            return Ok(());
         }
-        self.digests = sum(self.digests, 1);
-        self.differences = sum(
-            self.differences,
-            unequal(self.digest, recorded::next(input)?),
-        );
+        self.digests = self.digests.wrapping_add(1);
+        self.differs(self.digest != recorded::next(input)?);
         self.digest = START;
-        Ok(self)
+        Ok(())
     }
 }
 
-// Writes what was compared, and how many values differ.
-pub fn print(rt: &impl Print, t: Tally) -> io::Result<()> {
-    println!(rt;
-        "{} pictures, {} values and {} digests: {} differences",
-        t.pictures, t.values, t.digests, t.differences
-    )
+// What was compared, and how many values differ.
+impl fmt::Display for Tally {
+    fn fmt<W: fmt::Write>(&self, f: &mut fmt::Formatter<W>) -> fmt::Result {
+        let Tally {
+            pictures,
+            values,
+            digests,
+            differences,
+            ..
+        } = *self;
+        write!(
+            f,
+            "{pictures} pictures, {values} values and {digests} digests: {differences} differences"
+        )
+    }
 }

@@ -10,7 +10,7 @@ ghost use Rattle.weight.specs.Weight.{weight_at, gate_open, corner_weight_of, we
 ghost use Rattle.weight.specs.Plain.{plain_of, gate_closed};
 
 use clarity::{Clarity, lawful};
-use metric::{Metric, Pair, Weights};
+use metric::{Around, Metric, Pair, Weights};
 
 const CLARITY_THRESHOLD: f32 = 0.50;
 
@@ -34,6 +34,7 @@ fn weight_at(threshold: f32, edge_dist: f32, primary: Pair, secondary: Pair) -> 
 }
 
 // The gate is open: 2 times the edge distance is below the sum of the primary ones, product and sum in single precision.
+#[tactic(auto, using(single::proofs::Constants::two_is))]
 fn gate_open(edge_dist: f32, primary: Pair) -> bool
     ensures { result ≡ gate_open edge_dist primary.0 primary.1 }
 {
@@ -45,20 +46,19 @@ fn gate_closed(clarity: Clarity, edge_dist: f32, primary: Pair) -> bool
     ensures { result ≡ gate_closed clarity edge_dist primary.0 primary.1 }
 {
     match clarity {
-        Clarity::Standard => false,
-        Clarity::Threshold(_) => false,
+        Clarity::Standard | Clarity::Threshold(_) => false,
         Clarity::Gated(_) => !gate_open(edge_dist, primary),
     }
 }
 
 // The threshold of a setting.
+#[tactic(auto, using(single::proofs::Constants::half_is))]
 fn threshold_of(clarity: Clarity) -> f32
     ensures { result ≡ threshold_of clarity }
 {
     match clarity {
         Clarity::Standard => CLARITY_THRESHOLD,
-        Clarity::Threshold(t) => t,
-        Clarity::Gated(t) => t,
+        Clarity::Threshold(t) | Clarity::Gated(t) => t,
     }
 }
 
@@ -94,26 +94,16 @@ fn plain_weight(clarity: Clarity, p: f32, q: f32) -> f32
     ensures { (e s0 s1 : Float) → eq e f0 ≡ true → result ≡ corner_weight_of clarity e p q s0 s1 }
 {
     match clarity {
-        Clarity::Standard => p * q,
-        Clarity::Threshold(_) => p * q,
+        Clarity::Standard | Clarity::Threshold(_) => p * q,
         Clarity::Gated(_) => 0.0,
     }
 }
 
-// The weights of a pixel, of the metrics around it.
-pub fn weights_of(
-    clarity: Clarity,
-    tl: Metric,
-    t: Metric,
-    l: Metric,
-    c: Metric,
-    r: Metric,
-    bl: Metric,
-    b: Metric,
-    br: Metric,
-) -> Weights
-    ensures { result ≡ weights_of clarity tl t l c r bl b br }
+// The weights of a pixel, of the metrics around it; that of the pixel at the top-right, m.tr, is not read.
+pub fn weights_of(clarity: Clarity, m: Around<Metric>) -> Weights
+    ensures { result ≡ weights_of clarity m.tl m.t m.l m.c m.r m.bl m.b m.br }
 {
+    let Around { l, c, r, b, .. } = m;
     if plain(l, c, r, b) & lawful(clarity) {
         return Weights {
             w0: plain_weight(clarity, l.r, c.t),
@@ -123,9 +113,9 @@ pub fn weights_of(
         };
     }
     Weights {
-        w0: corner_weight(clarity, l.tr, Pair(l.r, c.t), Pair(tl.r, l.t)),
-        w1: corner_weight(clarity, r.tl, Pair(c.r, c.t), Pair(t.r, r.t)),
-        w2: corner_weight(clarity, b.tr, Pair(c.r, b.t), Pair(b.r, br.t)),
-        w3: corner_weight(clarity, b.tl, Pair(l.r, b.t), Pair(bl.r, bl.t)),
+        w0: corner_weight(clarity, l.tr, Pair(l.r, c.t), Pair(m.tl.r, l.t)),
+        w1: corner_weight(clarity, r.tl, Pair(c.r, c.t), Pair(m.t.r, r.t)),
+        w2: corner_weight(clarity, b.tr, Pair(c.r, b.t), Pair(b.r, m.br.t)),
+        w3: corner_weight(clarity, b.tl, Pair(l.r, b.t), Pair(m.bl.r, m.bl.t)),
     }
 }

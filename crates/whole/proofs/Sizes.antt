@@ -1,23 +1,13 @@
 -- What a call leaves by its answer, and the words of a picture enlarged three times. Assumes nothing.
-use mathlib.Core.Path.{◌≡◌, refl, sym, ◌∙◌, ap}
-use mathlib.Core.Bool.{Bool, true, false, cond}
+use mathlib.Core.Path.{◌≡◌, sym, ◌∙◌, ap}
 use mathlib.Core.List.{List}
 use Prim.Native.Nat.{ℕ, ◌*◌}
 use native.Mathlib.Nat.{mul_assoc, mul_left_comm}
 use native.Mathlib.Omega.{arith}
-use lib.Dec.{eqb}
-use borrow.Author.Tests.{eqb-true}
 use Rattle.picture.specs.Fill.{put}
 use Rattle.whole.specs.Calls.{filled}
 
--- a buffer after a call that was refused, and after one that was not
-pub kept : {E : Type 0} (r : ℕ) (vs l : List E) → (r ≡ 0 → ⊥) → l ≡ filled r vs l
-kept {E} r vs l h = go (eqb r 0) refl
-  where
-    go : (t : Bool) → eqb r 0 ≡ t → l ≡ cond t (put 0 vs l) l
-    go true e = absurd (h (eqb-true r 0 e))
-    go false e = refl
-
+-- a buffer after a call that was not refused
 pub written : {E : Type 0} (r : ℕ) (vs l l' : List E) → r ≡ 0 → l' ≡ put 0 vs l → l' ≡ filled r vs l
 written r vs l l' z e = e ∙ ap (λ (n : ℕ). filled n vs l) (sym z)
 

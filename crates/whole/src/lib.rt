@@ -2,13 +2,16 @@
 // nothing refuses them is that of `enlarged`.
 #![tactic(auto)]
 
+ghost use Rattle.picture.specs.Answer.{refusal_of};
 ghost use Rattle.whole.specs.Calls.{Scales, Scales9};
 
 use clarity::Clarity;
 use enlarged::enlarge;
-use sizes::{Lengths, area, refuse3, refuse9};
+use picture::refusal::Refusal;
+use picture::whole::Picture;
+use sizes::{Lengths, Times, area, refuse};
 
-// ScaleFX three-times. The answer is 0, or the number of the refusal, which leaves every buffer as it was.
+// ScaleFX three-times. A refusal leaves every buffer as it was.
 pub fn scale(
     w: u32,
     h: u32,
@@ -17,24 +20,19 @@ pub fn scale(
     output: &mut [u32],
     singles: &mut [f32],
     bytes: &mut [u8],
-) -> u32
+) -> Result<(), Refusal>
     ensures { Scales clarity w h picture.now output.old singles.old bytes.old
-        output.new singles.new bytes.new result }
+        output.new singles.new bytes.new (refusal_of result) }
 {
-    let lent = Lengths {
-        picture: picture.len(),
-        replaced: 0,
-        output: output.len(),
-        middle: 0,
-        singles: singles.len(),
-        bytes: bytes.len(),
+    let lent = Lengths::of(picture, &[], output, &[], singles, bytes);
+    refuse(Times::Three, clarity, w, h, 0, lent)?;
+    let whole = Picture {
+        words: picture,
+        w,
+        h,
     };
-    let f = refuse3(clarity, w, h, 0, lent);
-    if f != 0 {
-        return f;
-    }
-    enlarge(w, h, clarity, picture, output, singles, bytes);
-    f
+    enlarge(whole, clarity, output, singles, bytes);
+    Ok(())
 }
 
 // ScaleFX nine-times: three-times into the middle, and three-times again from there, both at the given clarity.
@@ -47,26 +45,26 @@ pub fn scale9x(
     middle: &mut [u32],
     singles: &mut [f32],
     bytes: &mut [u8],
-) -> u32
+) -> Result<(), Refusal>
     ensures { Scales9 clarity w h picture.now output.old middle.old singles.old
         bytes.old
-        output.new middle.new singles.new bytes.new result }
+        output.new middle.new singles.new bytes.new (refusal_of result) }
 {
-    let lent = Lengths {
-        picture: picture.len(),
-        replaced: 0,
-        output: output.len(),
-        middle: middle.len(),
-        singles: singles.len(),
-        bytes: bytes.len(),
+    let lent = Lengths::of(picture, &[], output, middle, singles, bytes);
+    refuse(Times::Nine, clarity, w, h, 0, lent)?;
+    let whole = Picture {
+        words: picture,
+        w,
+        h,
     };
-    let f = refuse9(clarity, w, h, 0, lent);
-    if f != 0 {
-        return f;
-    }
+    enlarge(whole, clarity, middle, singles, bytes);
     let n = area(w, h);
     let m = 9 * n;
-    enlarge(w, h, clarity, picture, middle, singles, bytes);
-    enlarge(3 * w, 3 * h, clarity, &middle[..m], output, singles, bytes);
-    f
+    let again = Picture {
+        words: &middle[..m],
+        w: 3 * w,
+        h: 3 * h,
+    };
+    enlarge(again, clarity, output, singles, bytes);
+    Ok(())
 }

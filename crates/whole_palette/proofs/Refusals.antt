@@ -1,6 +1,7 @@
 -- What a call with a palette that is not refused knows, that the call without one then takes the replaced picture, and the order of the
 -- numbers beside that call's. Assumes nothing.
-use mathlib.Core.Path.{◌≡◌, refl, ◌∙◌}
+use mathlib.Core.Path.{◌≡◌, refl, sym, ◌∙◌, ap}
+use Rattle.std.specs.Prelude.{Err, Result}
 use mathlib.Core.Logic.{◌⊎◌, inl, inr}
 use mathlib.Core.Bool.{Bool, true, false, cond, ◌&&◌, ◌||◌}
 use mathlib.Core.List.{List}
@@ -9,6 +10,10 @@ use native.Mathlib.Omega.{arith}
 use lib.Dec.{eqb, ltb}
 use lib.ListN.{length}
 use borrow.Author.Tests.{eqb-true, eqb-false, ne_eqb, lt-ltb, le-ltb}
+use Rattle.picture.specs.declared.refusal.Refusal.{Refusal}
+use Rattle.picture.specs.declared.refusal.Refusal.TheVariants as Refused
+use Rattle.picture.specs.Answer.{number_of}
+use Rattle.picture.specs.Answer.{refusal_of as answered}
 use Rattle.clarity.specs.declared.Clarity.{Clarity}
 use Rattle.clarity.specs.Clarity.{lawful_of}
 use Rattle.sizes.specs.declared.Asked.{Asked}
@@ -37,6 +42,32 @@ has_entry f entries e = go (eqb f 0) (eqb entries 0) (ltb 256 entries) refl refl
     go true true v q1 q2 z = absurd (number 13 z)
     go true false v q1 q2 z = let d = eqb-false entries 0 q2 in omega arith
     go false u v q1 q2 z = absurd (eqb-false f 0 q1 z)
+
+-- ---- a call that its sides, buffers or setting turn away: the palette is not looked at
+refused_first : (e : Refusal) (entries : ℕ) → number_of e ≡ refusal_palette (number_of e) entries
+unfolding refusal_palette
+refused_first Refused.Side entries = refl
+refused_first Refused.Picture entries = refl
+refused_first Refused.Output entries = refl
+refused_first Refused.Scratch entries = refl
+refused_first Refused.Outside entries = refl
+refused_first Refused.Operand entries = refl
+refused_first Refused.Stale entries = refl
+refused_first Refused.Trailer entries = refl
+refused_first Refused.Long entries = refl
+refused_first Refused.Lock entries = refl
+refused_first Refused.Locked entries = refl
+refused_first Refused.Items entries = refl
+refused_first Refused.Clarity entries = refl
+refused_first Refused.Palette entries = refl
+refused_first Refused.Register entries = refl
+refused_first Refused.Range entries = refl
+refused_first Refused.Order entries = refl
+
+pub refused_before : {A : Type 0} (r : Result A Refusal) (e : Refusal) (f entries : ℕ) → r ≡ Err e → answered r ≡ f
+    → number_of e ≡ refusal_palette f entries
+refused_before r e f entries is n =
+    refused_first e entries ∙ ap (λ (i : ℕ). refusal_palette i entries) (sym (ap answered is) ∙ n)
 
 -- ---- the call without a palette
 abbrev pub without : Asked → Asked

@@ -2,32 +2,41 @@
 // the replaced picture is enlarged by the calls of `whole`.
 #![tactic(auto)]
 
-ghost use Rattle.std.specs.Prelude.{◌≡◌};
+ghost use Rattle.std.specs.Prelude.{◌≡◌, ◌*◌};
+ghost use Rattle.picture.specs.Answer.{refusal_of as answered};
+ghost use Rattle.sizes.specs.Sizes.{asked_of, refusal_of};
 ghost use Rattle.whole_palette.specs.Calls.{ScalesBy, ScalesBy9, refusal_palette};
 
 use clarity::Clarity;
 use palette::replace;
-use sizes::{Lengths, area, refuse3, refuse9};
+use picture::refusal::Refusal;
+use sizes::{Lengths, Times, area, refuse};
 use whole::{scale, scale9x};
 
 // The most entries that a palette has.
 const ENTRIES: usize = 256;
 
-// The number that turns a call away, or 0: f is that of its sides, buffers and setting, and the palette is looked at last.
-fn refuse_palette(f: u32, entries: usize) -> u32
-    ensures { result ≡ refusal_palette f entries }
+// Why a call is turned away: by its sides, buffers and setting, of which the replaced picture takes as many words as the picture; and last
+// by how many entries its palette has.
+#[tactic(auto, using(crate::proofs::Refusals::refused_before), unfolding(crate::specs::Calls::refusal_palette))]
+fn refuse_by(
+    times: Times,
+    clarity: Clarity,
+    w: u32,
+    h: u32,
+    entries: usize,
+    lent: Lengths,
+) -> Result<(), Refusal>
+    ensures { answered result ≡ refusal_palette (refusal_of clarity (asked_of times w h (w * h) (w * h)) lent) entries }
 {
-    if f != picture::refusal::NONE {
-        return f;
-    }
+    refuse(times, clarity, w, h, area(w, h), lent)?;
     if (entries == 0) | (ENTRIES < entries) {
-        return picture::refusal::PALETTE;
+        return Err(Refusal::Palette);
     }
-    picture::refusal::NONE
+    Ok(())
 }
 
-// Three-times of the replaced picture, which fills the front of `replaced`. The answer is 0, or the number of the refusal, which leaves
-// every buffer as it was.
+// Three-times of the replaced picture, which fills the front of `replaced`. A refusal leaves every buffer as it was.
 pub fn scale_palette(
     w: u32,
     h: u32,
@@ -38,25 +47,14 @@ pub fn scale_palette(
     output: &mut [u32],
     singles: &mut [f32],
     bytes: &mut [u8],
-) -> u32
+) -> Result<(), Refusal>
     ensures { ScalesBy clarity w h picture.now palette.now replaced.old output.old
         singles.old bytes.old
-        replaced.new output.new singles.new bytes.new result }
+        replaced.new output.new singles.new bytes.new (answered result) }
 {
+    let lent = Lengths::of(picture, replaced, output, &[], singles, bytes);
+    refuse_by(Times::Three, clarity, w, h, palette.len(), lent)?;
     let n = area(w, h);
-    let lent = Lengths {
-        picture: picture.len(),
-        replaced: replaced.len(),
-        output: output.len(),
-        middle: 0,
-        singles: singles.len(),
-        bytes: bytes.len(),
-    };
-    let f = refuse3(clarity, w, h, n, lent);
-    let g = refuse_palette(f, palette.len());
-    if g != 0 {
-        return g;
-    }
     replace(picture, n, palette, replaced);
     scale(w, h, clarity, &replaced[..n], output, singles, bytes)
 }
@@ -73,25 +71,14 @@ pub fn scale9x_palette(
     middle: &mut [u32],
     singles: &mut [f32],
     bytes: &mut [u8],
-) -> u32
+) -> Result<(), Refusal>
     ensures { ScalesBy9 clarity w h picture.now palette.now replaced.old output.old
         middle.old singles.old bytes.old
-        replaced.new output.new middle.new singles.new bytes.new result }
+        replaced.new output.new middle.new singles.new bytes.new (answered result) }
 {
+    let lent = Lengths::of(picture, replaced, output, middle, singles, bytes);
+    refuse_by(Times::Nine, clarity, w, h, palette.len(), lent)?;
     let n = area(w, h);
-    let lent = Lengths {
-        picture: picture.len(),
-        replaced: replaced.len(),
-        output: output.len(),
-        middle: middle.len(),
-        singles: singles.len(),
-        bytes: bytes.len(),
-    };
-    let f = refuse9(clarity, w, h, n, lent);
-    let g = refuse_palette(f, palette.len());
-    if g != 0 {
-        return g;
-    }
     replace(picture, n, palette, replaced);
     scale9x(
         w,

@@ -9,13 +9,13 @@ pub returns-then-weightless : goal.returns-then-weightless
 returns-then-weightless c =
     let a = c.args in
     c.numbers_of.ensures
-    ∙ ap (numbers_of a.mtl a.mt a.ml a.mc a.mr a.mbl a.mb a.mbr)
-    (sym (weightless_idle a.stl a.st a.str a.sl a.sc a.sr a.sbl a.sb a.sbr (sym c.weightless.ensures ∙ c.if-weightless.true)))
-    ∙ sym (same a.mtl a.mt a.ml a.mc a.mr a.mbl a.mb a.mbr a.stl a.st a.str a.sl a.sc a.sr a.sbl a.sb a.sbr)
+    ∙ ap (numbers_of a.m.tl a.m.t a.m.l a.m.c a.m.r a.m.bl a.m.b a.m.br)
+    (sym (weightless_idle a.s.tl a.s.t a.s.tr a.s.l a.s.c a.s.r a.s.bl a.s.b a.s.br (sym c.weightless.ensures ∙ c.if-weightless.true)))
+    ∙ sym (same a.m.tl a.m.t a.m.l a.m.c a.m.r a.m.bl a.m.b a.m.br a.s.tl a.s.t a.s.tr a.s.l a.s.c a.s.r a.s.bl a.s.b a.s.br)
 
 pub returns : goal.returns
 returns c =
     let a = c.args in
     c.numbers_of-2.ensures
-    ∙ ap (numbers_of a.mtl a.mt a.ml a.mc a.mr a.mbl a.mb a.mbr) c.active_corners-k.ensures
-    ∙ sym (same a.mtl a.mt a.ml a.mc a.mr a.mbl a.mb a.mbr a.stl a.st a.str a.sl a.sc a.sr a.sbl a.sb a.sbr)
+    ∙ ap (numbers_of a.m.tl a.m.t a.m.l a.m.c a.m.r a.m.bl a.m.b a.m.br) c.active_corners-k.ensures
+    ∙ sym (same a.m.tl a.m.t a.m.l a.m.c a.m.r a.m.bl a.m.b a.m.br a.s.tl a.s.t a.s.tr a.s.l a.s.c a.s.r a.s.bl a.s.b a.s.br)

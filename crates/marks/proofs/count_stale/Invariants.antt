@@ -1,12 +1,11 @@
--- What the loop keeps, and its measure.
+-- What the loop keeps.
 use mathlib.Core.Path.{◌≡◌}
-use Prim.Native.Nat.{◌-◌, ◌≤◌}
+use mathlib.Core.List.{map}
+use Prim.Native.Nat.{◌*◌, ◌-◌}
+use lib.ListN.{take, drop}
 use Rattle.machine.specs.Lists.{count}
-use Rattle.marks.specs.Marks.{stale_in}
+use Rattle.machine.specs.Calls.{is_stale}
 use Rattle.marks.proofs.count_stale.Given as goal
 
-abbrev pub invariant-loop-i : goal.invariant-loop-i
-invariant-loop-i l = (l.lo ≤ l.i) × (l.i ≤ l.hi) × (l.c ≡ count (stale_in l.lo l.i l.marks))
-
-abbrev pub decreases-loop-i : goal.decreases-loop-i
-decreases-loop-i l = l.hi - l.i
+abbrev pub invariant-loop-run : goal.invariant-loop-run
+invariant-loop-run l = l.c ≡ count (map is_stale (take (224 * l.run-index) (take (l.fn.hi - l.fn.lo) (drop l.fn.lo l.fn.marks))))

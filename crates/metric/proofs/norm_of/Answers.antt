@@ -33,8 +33,8 @@ taken_is n h =
     ∙ of_bits-to_bits binary32 (of_int binary32 (pos n)) (of_int-fits binary32 (pos n))
 
 pub float_from_bits-result : goal.float_from_bits-result
-float_from_bits-result c = and_l (not (nan_bits binary32 (0x4b00_0000 + c.args.n))) _ (held c.args.n c.requires)
+float_from_bits-result c = and_l (not (nan_bits binary32 (0x4b00_0000 + c.args.n))) _ (held c.args.n (omega arith))
 
 pub returns : goal.returns
 unfolding norm of_bits
-returns c = rw (taken_is c.args.n c.requires)
+returns c = rw (taken_is c.args.n (omega arith))

@@ -1,6 +1,6 @@
--- What the loop of `page::fill` keeps: the first i words of the file stand in the picture; and its measure. Assumes nothing.
+-- What the loop of `page::fill` keeps: the first i words of the file stand in the picture. Assumes nothing.
 use mathlib.Core.List.{List, [], ◌∷◌}
-use Prim.Native.Nat.{ℕ, ◌+◌, ◌*◌, ◌-◌, ◌≤◌}
+use Prim.Native.Nat.{ℕ, ◌+◌, ◌*◌}
 use Rattle.picture.specs.Fill.{Filled}
 use Rattle.page.specs.Page.{little_endian, part}
 use Rattle.page.proofs.fill.Given as goal
@@ -10,7 +10,4 @@ abbrev pub words : List ℕ → ℕ → List ℕ
 words file i = little_endian (part (0 + 4 * i) 4 file) ∷ []
 
 abbrev pub invariant-loop-i : goal.invariant-loop-i
-invariant-loop-i l = (l.i ≤ l.n) × Filled 0 1 l.i (words l.file) l.initial.picture l.picture
-
-abbrev pub decreases-loop-i : goal.decreases-loop-i
-decreases-loop-i l = l.n - l.i
+invariant-loop-i l = Filled 0 1 l.i (words l.file) l.initial.picture l.picture

@@ -1,18 +1,27 @@
 -- `page::read_page` meets its contract. Assumes nothing.
-use mathlib.Core.Path.{◌≡◌}
+use mathlib.Core.Path.{◌≡◌, refl}
 use Prim.Native.Nat.{◌+◌, ◌*◌, ◌≤◌}
 use native.Mathlib.Omega.{arith}
 use lib.ListN.{length}
-use Rattle.page.proofs.Files.{all_of_it, refused_reads, filled_reads}
+use Rattle.std.specs.Prelude.{Err}
+use Rattle.std.proofs.Common.{rules}
+use Rattle.page.proofs.Files.{all_of_it, refused_reads, filled_reads, numbered}
 use Rattle.page.proofs.read_page.Goals as goal
 
-pub returns-then-page-ne-NONE : goal.returns-then-page-ne-NONE
-returns-then-page-ne-NONE c = refused_reads _ _ c.examined-page.result c.examined-page.ensures c.if-page-ne-NONE.true
+pub returns-in_err-page : goal.returns-in_err-page
+returns-in_err-page c =
+    let same : c.from_residual.result ≡ Err c.in_err-page.field-0.0 = search rules in
+    rw same (refused_reads c.args.file.now c.args.picture.now _ c.in_err-page.ensures (numbered c.in_err-page.field-0.0))
 
 pub fill-requires : goal.fill-requires
 fill-requires c =
-    let room : (length c.args.file.now ≡ 12 + 4 * (c.examined-page.result.w * c.examined-page.result.h)) × (c.examined-page.result.w * c.examined-page.result.h ≤ length c.args.picture.now) = all_of_it c.args.file.now _ c.examined-page.result c.examined-page.ensures c.if-page-ne-NONE.false in
-    omega (arith, room)
+    let p = c.in_ok-page.page in
+    let room : (length c.args.file.now ≡ 12 + 4 * (p.w * p.h)) × (p.w * p.h ≤ length c.args.picture.now) =
+    all_of_it c.args.file.now _ _ c.in_ok-page.ensures refl in
+    omega (arith, room, c.pixels.ensures)
 
 pub returns : goal.returns
-returns c = filled_reads _ _ c.examined-page.result c.examined-page.ensures c.fill.new.picture c.if-page-ne-NONE.false c.fill.ensures
+returns c =
+    let f = c.args.file.now in
+    let filled = rw c.pixels.ensures at c.fill.ensures in
+    filled_reads f c.args.picture.now _ c.in_ok-page.ensures c.fill.new.picture refl filled

@@ -1,28 +1,26 @@
 -- `painted::paint` meets its contract. Assumes nothing.
-use mathlib.Core.Path.{◌≡◌, sym, ap, ◌∙◌}
-use Prim.Native.Nat.{ℕ}
-use lib.ListN.{length}
-use Rattle.machine.specs.Calls.{refusal_paint}
-use Rattle.machine.proofs.PaintEnds.{paint_refused, paint_done}
-use Rattle.screens.specs.Screens.{screen_of}
+use Rattle.std.proofs.lemmas.Result.{err_from_is_err_and}
+use Rattle.painted.proofs.Promised.{paint_told, paint_counts, paint_taken}
 use Rattle.painted.proofs.paint.Goals as goal
 
-pub returns-then-refusal-ne0 : goal.returns-then-refusal-ne0
-returns-then-refusal-ne0 c =
-    let refused_of : (let a = c.args in c.refuse_paint-refusal.result ≡ refusal_paint (screen_of a.scale).side a.header a.picture.now (length a.marks.now) a.column a.row a.word) = (let a = c.args in
-    c.refuse_paint-refusal.ensures
-    ∙ ap (λ (s : ℕ). refusal_paint s a.header a.picture.now (length a.marks.now) a.column a.row a.word) c.side.ensures) in
+pub returns-in_err-check_paint : goal.returns-in_err-check_paint
+returns-in_err-check_paint c =
     let a = c.args in
-    paint_refused (screen_of a.scale) a.header a.picture.now a.marks.now a.column a.row a.word c.refuse_paint-refusal.result
-    refused_of c.if-refusal-ne0.true
+    let p = err_from_is_err_and c.from_residual.result c.from_residual.ensures.1 in
+    rw (p.1, p.2)
+    (paint_told a.scale _ c.side.ensures a.header a.picture.now a.marks.now a.paint.column a.paint.row a.paint.word _
+    c.in_err-check_paint.ensures)
+
+pub count_stale-stale-requires : goal.count_stale-stale-requires
+count_stale-stale-requires c =
+    let a = c.args in
+    let s = c.store_word-changed in
+    paint_counts a.scale _ c.side.ensures a.header a.picture.now a.marks.now a.paint.column a.paint.row a.paint.word
+    c.in_ok-check_paint.ensures s.new.picture s.new.marks _ s.ensures _ c.blocks-n.ensures
 
 pub returns : goal.returns
 returns c =
-    let refused_of : (let a = c.args in c.refuse_paint-refusal.result ≡ refusal_paint (screen_of a.scale).side a.header a.picture.now (length a.marks.now) a.column a.row a.word) = (let a = c.args in
-    c.refuse_paint-refusal.ensures
-    ∙ ap (λ (s : ℕ). refusal_paint s a.header a.picture.now (length a.marks.now) a.column a.row a.word) c.side.ensures) in
     let a = c.args in
-    let stored = c.store_word-changed in
-    paint_done (screen_of a.scale) a.header a.picture.now a.marks.now a.column a.row a.word
-    (sym refused_of ∙ c.if-refusal-ne0.false) stored.new.picture stored.new.marks stored.result c.count_stale.result
-    stored.ensures c.count_stale.ensures
+    let s = c.store_word-changed in
+    paint_taken a.scale _ c.side.ensures a.header a.picture.now a.marks.now a.paint.column a.paint.row a.paint.word
+    c.in_ok-check_paint.ensures s.new.picture s.new.marks _ s.ensures _ c.blocks-n.ensures _ c.count_stale-stale.ensures

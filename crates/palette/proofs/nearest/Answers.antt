@@ -2,26 +2,28 @@
 -- nothing.
 use native.Mathlib.Omega.{arith}
 use mathlib.Core.Path.{refl}
-use Rattle.palette.proofs.Laws.{nearest_none, search_start, search_taken, search_left, search_done}
+use Rattle.std.proofs.lemmas.List.{take_rest}
 use Rattle.palette.proofs.nearest.Goals.{then-n-least, else-n-least}
+use Rattle.palette.proofs.Laws.{nearest_none, nearest_start, search_taken, search_left, search_done}
 use Rattle.palette.proofs.nearest.Goals as goal
 
 pub returns-then-palette-eq0 : goal.returns-then-palette-eq0
 returns-then-palette-eq0 c = nearest_none _ _ c.if-palette-eq0.true
 
-pub loop-i-init : goal.loop-i-init
-loop-i-init c = search_start _ _ _ _ (omega arith) refl c.nearness-least.ensures.0
+pub loop-entry-init : goal.loop-entry-init
+loop-entry-init c =
+    let l = c.args.palette.now in
+    record { is = rw (take_rest l 1) (nearest_start l c.args.word (omega arith)); least_is = c.nearness-least.ensures.0 }
 
-pub loop-i-preserved : goal.loop-i-preserved
-loop-i-preserved c =
-    let a = c.args in
-    let s = c.loop-i.invariant in
-    let h = c.loop-i-test.true in
+pub loop-entry-preserved : goal.loop-entry-preserved
+loop-entry-preserved c =
+    let s = c.loop-entry.invariant in
+    let h = c.loop-entry-test.true in
     let e = c.nearness-n.ensures.0 in
     elim c.if-n-least.branch [
-      | then-n-least w ↦ rw (w.best-is, w.least-is) (search_taken a.palette.now a.word _ _ c.loop-i.i _ _ h refl e w.if-n-least.true s)
-      | else-n-least w ↦ rw (w.best-is, w.least-is) (search_left a.palette.now a.word _ _ c.loop-i.i _ _ h refl e w.if-n-least.false s)
+      | then-n-least w ↦ rw (w.best-is, w.least-is) (search_taken c.args.palette.now _ c.args.word _ _ _ _ _ h refl e w.if-n-least.true s)
+      | else-n-least w ↦ rw (w.best-is, w.least-is) (search_left c.args.palette.now _ c.args.word _ _ _ _ _ h refl e w.if-n-least.false s)
     ]
 
 pub returns : goal.returns
-returns c = search_done _ _ _ _ _ c.loop-i-test.false c.loop-i.invariant
+returns c = search_done c.args.palette.now _ c.args.word _ _ _ c.loop-entry-test.false c.loop-entry.invariant

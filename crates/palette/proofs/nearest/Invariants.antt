@@ -1,10 +1,6 @@
--- What the loop of `palette::nearest` keeps: the best of the first i entries and its N; and the loop's measure. Assumes nothing.
-use Rattle.std.proofs.Common.{◌-◌, length}
+-- What the loop of `palette::nearest` keeps: the best of the entries so far and its N. Assumes nothing.
 use Rattle.palette.proofs.Laws.{Searched}
 use Rattle.palette.proofs.nearest.Given as goal
 
-abbrev pub invariant-loop-i : goal.invariant-loop-i
-invariant-loop-i l = Searched l.palette l.word l.best l.least l.i
-
-abbrev pub decreases-loop-i : goal.decreases-loop-i
-decreases-loop-i l = length l.palette - l.i
+abbrev pub invariant-loop-entry : goal.invariant-loop-entry
+invariant-loop-entry l = Searched l.fn.palette l.rest l.word l.best l.least l.entry-index

@@ -14,15 +14,15 @@ use Rattle.print.proofs.put_enlarged.Goals as goal
 
 pub put_picture-requires : goal.put_picture-requires
 put_picture-requires c =
-    let enlarged : take (9 * (c.args.w * c.args.h)) c.scale.new.output ≡ scale_of Standard c.args.w c.args.h (words c.args.w c.args.picture.now) = (let a = c.args in
-    scaled a.w a.h a.picture.now _ _ _ _ _ _ _ c.requires.w_bound.0 c.requires.w_bound.1 c.requires.w_bound.3 (omega arith) (omega arith) (omega arith) c.scale.ensures) in
-    let long : length (take (9 * (c.args.w * c.args.h)) c.scale.new.output) ≡ (9 * (c.args.w * c.args.h)) = ap length enlarged ∙ scale_length Standard c.args.w c.args.h (words c.args.w c.args.picture.now) in
+    let enlarged : take (9 * (c.args.page.w * c.args.page.h)) c.scale.new.output ≡ scale_of Standard c.args.page.w c.args.page.h (words c.args.page.w c.args.picture.now) = (let a = c.args in
+    scaled a.page.w a.page.h a.picture.now _ _ _ _ _ _ _ c.requires.w_bound.0 c.requires.w_bound.1 c.requires.w_bound.3 (omega arith) (omega arith) (omega arith) c.scale.ensures) in
+    let long : length (take (9 * (c.args.page.w * c.args.page.h)) c.scale.new.output) ≡ (9 * (c.args.page.w * c.args.page.h)) = ap length enlarged ∙ scale_length Standard c.args.page.w c.args.page.h (words c.args.page.w c.args.picture.now) in
     let a = c.args in
-    let text : List ℕ → ℕ = λ (s : List ℕ). length (picture_text (3 * a.w) (3 * a.h) s) in
-    (omega (arith, nine a.w a.h, long), omega (arith, ap text enlarged))
+    let text : List ℕ → ℕ = λ (s : List ℕ). length (picture_text (3 * a.page.w) (3 * a.page.h) s) in
+    rw c.pixels-n.ensures (omega (arith, nine a.page.w a.page.h, long), omega (arith, ap text enlarged))
 
 pub returns : goal.returns
 returns c =
-    let enlarged : take (9 * (c.args.w * c.args.h)) c.scale.new.output ≡ scale_of Standard c.args.w c.args.h (words c.args.w c.args.picture.now) = (let a = c.args in
-    scaled a.w a.h a.picture.now _ _ _ _ _ _ _ c.requires.w_bound.0 c.requires.w_bound.1 c.requires.w_bound.3 (omega arith) (omega arith) (omega arith) c.scale.ensures) in
-    rw enlarged at c.put_picture.ensures
+    let enlarged : take (9 * (c.args.page.w * c.args.page.h)) c.scale.new.output ≡ scale_of Standard c.args.page.w c.args.page.h (words c.args.page.w c.args.picture.now) = (let a = c.args in
+    scaled a.page.w a.page.h a.picture.now _ _ _ _ _ _ _ c.requires.w_bound.0 c.requires.w_bound.1 c.requires.w_bound.3 (omega arith) (omega arith) (omega arith) c.scale.ensures) in
+    rw (c.pixels-n.ensures, enlarged) at c.put_picture.ensures

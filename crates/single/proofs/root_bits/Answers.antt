@@ -12,9 +12,9 @@ pub returns-then-b-eq0 : goal.returns-then-b-eq0
 returns-then-b-eq0 c = sym (ap root_bits c.if-b-eq0.true ∙ zero_root)
 
 pub near_root-r-requires : goal.near_root-r-requires
-near_root-r-requires c = scale_in _ _ c.parts_of-x.ensures.lo c.parts_of-x.ensures.hi
+near_root-r-requires c = scale_in _ _ c.parts_of-m.ensures.lo c.parts_of-m.ensures.hi
 
 pub returns : goal.returns
 returns c =
-    let x = c.parts_of-x in
+    let x = c.parts_of-m in
     scaled_root x.result.m x.result.e c.near_root-r.result c.args.b c.requires x.ensures c.near_root-r.ensures

@@ -9,8 +9,8 @@ use Rattle.stale_search.proofs.row_clear.Goals as goal
 
 pub returns : goal.returns
 returns c t =
-    let a = c.args in
-    let r = room a.y c.requires (omega arith) in
-    clear_row a.w a.marks.now a.x a.end a.y
-    (none_clear (a.y * a.w + a.x) (a.y * a.w + a.end) a.marks.now
+    let p = c.args in
+    let r = room p.j c.requires (omega arith) in
+    clear_row p.w p.marks.now p.a.x p.a.end p.j
+    (none_clear (p.j * p.w + p.a.x) (p.j * p.w + p.a.end) p.marks.now
     (sym c.count_stale.ensures ∙ eqb-true c.count_stale.result 0 t) (omega arith))

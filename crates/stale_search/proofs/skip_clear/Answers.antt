@@ -1,16 +1,21 @@
--- `stale_search::skip_clear` meets its contract. The marks before i are not stale. Assumes nothing.
-use mathlib.Core.Path.{sym, ◌∙◌}
-use Prim.Native.Nat.{◌+◌}
+-- `stale_search::skip_clear` meets its contract. Assumes nothing.
+use mathlib.Core.Path.{sym, subst}
+use Prim.Native.Nat.{ℕ, ◌*◌}
 use native.Mathlib.Omega.{arith}
-use Rattle.marks.proofs.Counts.{none_clear}
-use Rattle.marks.proofs.Parts.{up_more}
+use lib.ListN.{length}
+use Rattle.marks.specs.Marks.{ClearUpTo}
+use Rattle.stale_search.proofs.Steps.{steps_clear}
 use Rattle.stale_search.proofs.skip_clear.Goals as goal
 
-pub loop-i-preserved : goal.loop-i-preserved
-loop-i-preserved c =
-    let a = c.args in
-    let l = c.loop-i in
-    let m = a.marks.now in
-    let r = c.count_run in
-    up_more m a.lo a.hi l.i (l.i + 32) l.invariant (omega arith) (omega arith)
-    (none_clear l.i (l.i + 32) m (sym r.ensures ∙ c.if-count_run-eq0.true) (omega arith))
+pub overflow_mul-result : goal.overflow_mul-result
+overflow_mul-result c =
+    let m = c.args.marks.now in
+    let r = c.as_chunks in
+    omega (arith, (steps_clear 32 _ m r.result.0.now r.ensures.front r.ensures.front_len (omega arith)).to, c.clear_steps.ensures)
+
+pub returns : goal.returns
+returns c =
+    let m = c.args.marks.now in
+    let r = c.as_chunks in
+    subst (λ (k : ℕ). ClearUpTo 0 (length m) m (32 * k)) (sym c.clear_steps.ensures)
+    (steps_clear 32 _ m r.result.0.now r.ensures.front r.ensures.front_len (omega arith))

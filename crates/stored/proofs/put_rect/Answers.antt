@@ -1,37 +1,28 @@
 -- `stored::put_rect` meets its contract: the invariant says that the first j rows of blocks stand. Assumes nothing.
 use native.Mathlib.Omega.{arith}
-use native.Mathlib.Nat.{zero-mul}
 use mathlib.Core.Path.{ap}
-use mathlib.Core.List.{List}
-use Prim.Native.Nat.{ℕ, ◌+◌, ◌*◌}
+use Prim.Native.Nat.{◌+◌, ◌*◌}
 use Rattle.picture.specs.Picture.{words}
-use Rattle.picture.specs.Fill.{chunk, add_one_mul}
-use Rattle.grid.specs.Grid.{tags_at}
+use Rattle.picture.specs.Fill.{chunk}
 use Rattle.block.specs.Block.{block_from}
 use Rattle.block.specs.StoreLaws.{rected_none, rected_more}
-use Rattle.stored.proofs.put_rect.Invariants.{blocks}
+use Rattle.stored.specs.Room.{rect_blocks}
+use Rattle.stored.proofs.Parts.{tags_from, row_from}
 use Rattle.stored.proofs.put_rect.Goals as goal
 
 pub loop-j-init : goal.loop-j-init
 loop-j-init c =
-    let a = c.args in (
-      omega arith,
-      omega (arith, zero-mul a.stride),
-      omega (arith, zero-mul (3 * a.ow)),
-      rected_none a.ow a.at a.k (blocks a.w a.h a.picture.now a.x a.y a.tags.now a.from a.stride) a.out.now,
-    )
+    let a = c.args in
+    rected_none a.ow 0 a.g.cols (rect_blocks a.picture.w a.picture.h (words a.picture.w a.picture.words.now) a.g a.tags.now a.stride) a.out.now
 
 pub loop-j-preserved : goal.loop-j-preserved
 loop-j-preserved c =
     let s = c.loop-j in
     let a = c.args in
-    let block : ℕ → ℕ → List ℕ =
-    λ n i. block_from a.w a.h (words a.w a.picture.now) (a.x + i) (a.y + s.j) (tags_at a.tags.now (n + i * 4)) in (
-      omega arith,
-      omega (arith, add_one_mul s.j a.stride),
-      omega (arith, add_one_mul s.j (3 * a.ow)),
-      rected_more a.ow a.at a.k s.j (blocks a.w a.h a.picture.now a.x a.y a.tags.now a.from a.stride) a.out.now
-          s.out c.put_row.new.out s.o (block s.f)
-          (omega (arith, chunk s.j a.r (3 * a.ow) c.loop-j-test.true)) s.invariant.3 s.invariant.2
-          (λ i h. ap (λ (n : ℕ). block n i) s.invariant.1) c.put_row.ensures,
-    )
+    let at = s.j * (3 * a.ow) in
+    rected_more a.ow 0 a.g.cols s.j (rect_blocks a.picture.w a.picture.h (words a.picture.w a.picture.words.now) a.g a.tags.now a.stride) a.out.now
+    s.out _ at _ (omega (arith, chunk s.j a.g.rows (3 * a.ow) c.loop-j-test.true)) s.invariant (omega arith)
+    (λ i h. ap (block_from a.picture.w a.picture.h (words a.picture.w a.picture.words.now) (a.g.x0 + i) (a.g.y0 + s.j))
+    (tags_from a.tags.now (s.j * a.stride) (i * 4)))
+    (row_from a.ow a.g.cols at _ s.out c.put_row.new.out
+    (omega (arith, chunk s.j a.g.rows (3 * a.ow) c.loop-j-test.true, s.invariant.long)) c.put_row.ensures)

@@ -7,7 +7,7 @@ use Rattle.three.proofs.mark_paint.Goals as goal
 
 pub returns : goal.returns
 returns c =
-    let a = c.args in
+    let a = c.args.at in
     c.mark_box-2.ensures
     ∙ ap (stamp (boxed a.w a.h a.column a.row 3 5 6) 1) c.mark_box.ensures
-    ∙ cross_marked a.w a.h a.column a.row a.marks.now
+    ∙ cross_marked a.w a.h a.column a.row c.args.marks.now

@@ -13,4 +13,4 @@ returns c =
       c.around-n.ensures,
       c.word-w.ensures,
     ) at c.split.ensures)
-    ∙ whole a.e a.dl a.dl2 a.dl3 a.dr a.dr2 a.dr3 a.du a.du2 a.du3 a.dd a.dd2 a.dd3
+    ∙ whole a.e a.d1.left a.d2.left a.d3.left a.d1.right a.d2.right a.d3.right a.d1.up a.d2.up a.d3.up a.d1.down a.d2.down a.d3.down

@@ -10,7 +10,7 @@ use Rattle.weight.proofs.weights_of.Goals as goal
 pub returns-then-plain-lawful : goal.returns-then-plain-lawful
 unfolding weights_of
 returns-then-plain-lawful c =
-    let known : (lawful_of c.args.clarity ≡ true) × Ground c.args.l c.args.c c.args.r c.args.b = let b = both c.plain.result c.lawful.result c.if-plain-lawful.true in
+    let known : (lawful_of c.args.clarity ≡ true) × Ground c.args.m.l c.args.m.c c.args.m.r c.args.m.b = let b = both c.plain.result c.lawful.result c.if-plain-lawful.true in
     (sym c.lawful.ensures ∙ b.1, ground _ _ _ _ (sym c.plain.ensures ∙ b.0)) in
     let k = known in
     made (c.plain_weight.ensures _ _ _ k.1.l_tr) (c.plain_weight-then-plain-lawful.ensures _ _ _ k.1.r_tl)

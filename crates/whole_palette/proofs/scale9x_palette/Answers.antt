@@ -1,9 +1,10 @@
 -- `whole_palette::scale9x_palette` meets its contract. Assumes nothing.
-use mathlib.Core.Path.{sym}
+use mathlib.Core.Path.{sym, ap}
 use native.Mathlib.Omega.{arith}
 use Prim.Native.Nat.{◌≤◌}
 use lib.ListN.{length}
 use lib.Seq.{length-take-le}
+use Rattle.picture.specs.Answer.{refusal_of as answered}
 use Rattle.whole_palette.proofs.Called.{fits9, done9}
 use Rattle.whole_palette.proofs.scale9x_palette.Goals as goal
 
@@ -11,26 +12,26 @@ pub replace-requires : goal.replace-requires
 replace-requires c =
     let room : let a = c.args in let n = c.area-n.result in (n ≤ length a.picture.now) × (n ≤ length a.replaced.now) = (let a = c.args in
     fits9 a.clarity a.w a.h a.picture.now a.palette.now a.replaced.now a.output.now a.middle.now a.singles.now a.bytes.now _ _ _
-    c.area-n.ensures c.refuse9-f.ensures c.refuse_palette-g.ensures c.if-g-ne0.false) in
+    c.area-n.ensures (ap answered c.in_ok-refuse_by.was) c.refuse_by.ensures c.of-lent.ensures) in
     room
 
 pub slice_bounds-scale9x-end : goal.slice_bounds-scale9x-end
 slice_bounds-scale9x-end c =
     let room : let a = c.args in let n = c.area-n.result in (n ≤ length a.picture.now) × (n ≤ length a.replaced.now) = (let a = c.args in
     fits9 a.clarity a.w a.h a.picture.now a.palette.now a.replaced.now a.output.now a.middle.now a.singles.now a.bytes.now _ _ _
-    c.area-n.ensures c.refuse9-f.ensures c.refuse_palette-g.ensures c.if-g-ne0.false) in
+    c.area-n.ensures (ap answered c.in_ok-refuse_by.was) c.refuse_by.ensures c.of-lent.ensures) in
     omega (arith, room.1, c.replace.auto.replaced)
 
 pub slice_bounds-scale9x-end-2 : goal.slice_bounds-scale9x-end-2
 slice_bounds-scale9x-end-2 c =
     let room : let a = c.args in let n = c.area-n.result in (n ≤ length a.picture.now) × (n ≤ length a.replaced.now) = (let a = c.args in
     fits9 a.clarity a.w a.h a.picture.now a.palette.now a.replaced.now a.output.now a.middle.now a.singles.now a.bytes.now _ _ _
-    c.area-n.ensures c.refuse9-f.ensures c.refuse_palette-g.ensures c.if-g-ne0.false) in
+    c.area-n.ensures (ap answered c.in_ok-refuse_by.was) c.refuse_by.ensures c.of-lent.ensures) in
     sym (length-take-le _ _ (omega (arith, room.1, c.replace.auto.replaced)))
 
 pub returns : goal.returns
 returns c =
     let a = c.args in
     done9 a.clarity a.w a.h a.picture.now a.palette.now a.replaced.now a.output.now a.middle.now a.singles.now a.bytes.now _ _ _
-    c.area-n.ensures c.refuse9-f.ensures c.refuse_palette-g.ensures c.if-g-ne0.false
+    c.area-n.ensures (ap answered c.in_ok-refuse_by.was) c.refuse_by.ensures c.of-lent.ensures
     _ _ _ _ _ _ c.replace.ensures c.scale9x.ensures
