@@ -10,7 +10,7 @@ ghost use Rattle.grid.specs.Near.{cross_of};
 ghost use Rattle.grid.specs.Room.{Held, Around, Feeds};
 
 use grid::pass::{Pass, fill_rect};
-use grid::place::more;
+use grid::place::places_at;
 use grid::{Grid, Records};
 use junction::Junctions;
 use tag::{Cross, Tags};
@@ -30,16 +30,14 @@ impl Tagging<'_> {
         requires { (Around 3 3 self.now.junctions.of self.now.w self.now.h x y) × ((0 < d) × (d ≤ 3)) }
         ensures { result ≡ cross_of self.now.w self.now.h (junctions_field self.now.junctions.of self.now.junctions.elements.now) x y d }
     {
-        let left = x.saturating_sub(d);
-        let right = more(x, d, self.w);
-        let up = y.saturating_sub(d);
-        let down = more(y, d, self.h);
+        let xs = places_at(x, d, self.w);
+        let ys = places_at(y, d, self.h);
         let j = self.junctions;
         Cross {
-            left: j.at(left, y),
-            right: j.at(right, y),
-            up: j.at(x, up),
-            down: j.at(x, down),
+            left: j.at(xs.before, y),
+            right: j.at(xs.after, y),
+            up: j.at(x, ys.before),
+            down: j.at(x, ys.after),
         }
     }
 }

@@ -1,5 +1,6 @@
 -- `tagged::Tagging::record_at` meets its contract: where the pixel is bare its tags are 0, and where those beside it decide they are
 -- what those give. Assumes nothing.
+use Rattle.std.proofs.Common.{rules}
 use mathlib.Core.Path.{◌≡◌, sym, ◌∙◌, ap}
 use mathlib.Core.Bool.{true}
 use Prim.Native.Nat.{ℕ, ◌<◌}
@@ -65,5 +66,5 @@ unfolding junctions_field
 returns-clause-made c =
     let s = c.args.self.now in
     let j = junctions_field s.junctions.of s.junctions.elements.now in
-    all_at s.w s.h j c.args.x c.args.y c.requires.on_x c.requires.on_y _ c.at-e.ensures
-    _ _ _ _ c.cross-near.ensures c.cross.ensures c.cross-2.ensures c.trace_edges.ensures
+    all_at s.w s.h j c.args.x c.args.y c.requires.on_x c.requires.on_y _ (search rules)
+    _ _ _ _ c.cross-near.ensures (search rules) (search rules) c.trace_edges.ensures
