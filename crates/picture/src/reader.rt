@@ -1,8 +1,7 @@
-// The reader: a picture's words with its two sizes. It asks for no number of words: past the last one it reads 0.
+// The reader: a picture's words with its two sizes, and thin functions over it, of which `picture::get`, over the plain slice, does the
+// work. It asks for no number of words: past the last one it reads 0.
 ghost use Rattle.std.specs.Prelude.{◌≡◌};
 ghost use Rattle.picture.specs.Picture.{near, words};
-
-use crate::shift;
 
 #[derive(Clone, Copy)]
 pub struct Reader<'a> {
@@ -23,9 +22,6 @@ impl<'a> Reader<'a> {
     pub fn get(self, x: u32, y: u32, dx: i32, dy: i32) -> u32
         ensures { result ≡ near self.entry.w self.entry.h (words self.entry.w self.entry.words.now) x y dx dy }
     {
-        let cx = shift(x, dx, self.w) as usize;
-        let cy = shift(y, dy, self.h) as usize;
-        let i = cy * (self.w as usize) + cx;
-        self.words.get(i).copied().unwrap_or(0)
+        crate::get(self.words, self.w, self.h, x, y, dx, dy)
     }
 }

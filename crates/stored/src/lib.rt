@@ -31,11 +31,8 @@ fn put_tagged(run: Run, tags: &[u8], out: &mut [u32], ow: usize)
         × (Copied ow 0 run.k (λ i. run_words run (run.x + i) run.y) out.old) }
     ensures { out.new ≡ put_row ow 0 run.entry.k (run_blocks run.entry tags.now) out.old }
 {
-    let picture = Reader {
-        words: run.picture.words,
-        w: run.picture.w,
-        h: run.picture.h,
-    };
+    let of = run.picture;
+    let picture = Reader::over(of.words, of.w, of.h);
     for i in 0..run.k {
         let at = i as usize;
         let t = Tags::load(tags, 4 * at);

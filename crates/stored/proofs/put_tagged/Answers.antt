@@ -26,8 +26,9 @@ put_block-requires c =
       omega (arith, r.words, s.invariant.long),
       (
         omega (arith, r.apart),
-        stands a.run.picture.w a.run.picture.h a.run.x a.run.y a.run.k a.ow 0 s.i (3 * s.i) a.run.picture.words.now a.out.now s.out
-            (run_blocks a.run a.tags.now) r.along r.down r.apart r.words (omega arith) (omega arith) c.requires.1 s.invariant,
+        rw (c.over-picture.ensures.0, c.over-picture.ensures.1.0, c.over-picture.ensures.1.1)
+            (stands a.run.picture.w a.run.picture.h a.run.x a.run.y a.run.k a.ow 0 s.i (3 * s.i) a.run.picture.words.now a.out.now s.out
+            (run_blocks a.run a.tags.now) r.along r.down r.apart r.words (omega arith) (omega arith) c.requires.1 s.invariant),
       ),
     )
 
