@@ -101,10 +101,10 @@ impl Header {
         (column < self.w) & (row < self.h)
     }
 
-    // Which word of the picture stands at a position that it has, and which mark, in row order.
+    // Which word of the picture stands at a position, and which mark, in row order: inside, where the picture has the position.
     pub fn place(self, column: u32, row: u32) -> usize
-        requires { (column < self.w) × (row < self.h) }
-        ensures { (result ≡ row * self.w + column) × (result < self.w * self.h) }
+        ensures row_order { result ≡ row * self.w + column }
+        ensures inside { column < self.w → row < self.h → result < self.w * self.h }
     {
         (row as usize) * (self.w as usize) + (column as usize)
     }

@@ -105,7 +105,8 @@ pub fn check_show(
     if o < words * n {
         return Err(Refusal::Output);
     }
-    if marks.len() < n {
+    let m = marks.len();
+    if m < n {
         return Err(Refusal::Scratch);
     }
     check_clarity(header)?;

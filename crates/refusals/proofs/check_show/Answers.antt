@@ -32,5 +32,5 @@ returns-in_err-check_clarity c =
     let r = c.from_residual-in_err-check_clarity in
     let p = err_from_is_err_and r.result r.ensures.1 in
     let room = subst (λ (n : ℕ). a.words * n ≤ a.o) c.blocks-n.ensures c.if-o-words.false in
-    let marked = subst (λ (n : ℕ). n ≤ length a.marks.now) c.blocks-n.ensures c.if-marks-n.false in
+    let marked = subst (λ (n : ℕ). n ≤ length a.marks.now) c.blocks-n.ensures c.if-m-n.false in
     rw (p.1, p.2, t.0, t.1, le-ltb a.o _ room, le-ltb (length a.marks.now) _ marked) k
