@@ -17,7 +17,7 @@ use session::screen::Three;
 use session3x::Session3x;
 use std::io;
 
-// P pixels, and O words of output.
+// P pixels, and O words of output. Where these are many, the buffers are named in place: `Lent::new` would have them copied on the stack.
 type Lent3x<const P: usize, const O: usize> = Lent<Three, 9, P, O>;
 
 // A lock call, and all of the header that it answered but the setting. It takes four numbers: calls with a literal of six lines are no
@@ -262,7 +262,12 @@ fn too_wide(rt: &impl Print) -> io::Result<()> {
 
 // A picture of 32 by 32, on which a changing paint makes a cross of blocks stale.
 fn crosses(rt: &impl Print) -> io::Result<()> {
-    let mut lent: Lent3x<1024, 9216> = Lent::new([0; 1024], 0);
+    let mut lent: Lent3x<1024, 9216> = Lent {
+        session: Session3x::default(),
+        picture: [0; 1024],
+        output: [7; 9216],
+        marks: [0; 1024],
+    };
     walk(rt, &mut lent, 100)?;
     beside(rt, &mut lent, 31, 31)
 }

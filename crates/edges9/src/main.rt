@@ -11,19 +11,29 @@ use session::screen::{Nine, Three};
 use session9x::Session9x;
 use std::io;
 
-// P pixels, and O words of output.
+// P pixels, and O words of output. Where these are many, the buffers are named in place: `Lent::new` would have them copied on the stack.
 type Lent9x<const P: usize, const O: usize> = Lent<Nine, 81, P, O>;
 
 // A picture of 32 by 32, on which a changing paint makes a box of blocks stale.
 fn boxes(rt: &impl Print) -> io::Result<()> {
-    let mut lent: Lent9x<1024, 82944> = Lent::new([0; 1024], 0);
+    let mut lent: Lent9x<1024, 82944> = Lent {
+        session: Session9x::default(),
+        picture: [0; 1024],
+        output: [7; 82944],
+        marks: [0; 1024],
+    };
     walk(rt, &mut lent, 200)?;
     beside(rt, &mut lent, 19, 10)
 }
 
 // A side at the limit is taken, and one past it is refused before any buffer is looked at.
 fn sides(rt: &impl Print) -> io::Result<()> {
-    let mut lent: Lent9x<682, 55242> = Lent::new([5; 682], 3);
+    let mut lent: Lent9x<682, 55242> = Lent {
+        session: Session9x::default(),
+        picture: [5; 682],
+        output: [7; 55242],
+        marks: [3; 682],
+    };
     lent.opened(rt, 682, 1, Clarity::Standard)?;
     lent.opened(rt, 683, 1, Clarity::Standard)?;
     lent.opened(rt, 1, 683, Clarity::Standard)

@@ -64,18 +64,7 @@ struct Kept<'a> {
     ghost right: { Keeps palette.now slots } by { Prim.hlevel props },
 }
 
-impl<'a> Kept<'a> {
-    // Of this palette. At the start each slot keeps the entry of the word 0.
-    fn of(palette: &'a [u32]) -> Kept<'a>
-        ensures { result.palette ≡ palette.entry }
-    {
-        let entry = nearest(palette, 0);
-        Kept {
-            palette,
-            slots: [Slot { word: 0, entry }; KEPT],
-        }
-    }
-
+impl Kept<'_> {
     // The entry nearest to the word: the one kept where it is kept, else found and kept.
     fn entry_of(&mut self, word: u32) -> u32
         ensures { (result ≡ nearest_of self.old.palette.now word) × (self.new.palette ≡ self.old.palette) }
@@ -102,7 +91,12 @@ pub fn replace(picture: &[u32], n: usize, palette: &[u32], replaced: &mut [u32])
     requires { (n ≤ length picture.now) × (n ≤ length replaced.old) }
     ensures { replaced.new ≡ put 0 (replaced_of palette.now n picture.now) replaced.old }
 {
-    let mut kept = Kept::of(palette);
+    // At the start each slot keeps the entry of the word 0. Made here, since a function that answered them would copy them all on the stack.
+    let entry = nearest(palette, 0);
+    let mut kept = Kept {
+        palette,
+        slots: [Slot { word: 0, entry }; KEPT],
+    };
     for i in 0..n {
         replaced[i] = kept.entry_of(picture[i]);
     }

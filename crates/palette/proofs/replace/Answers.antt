@@ -1,5 +1,5 @@
 -- `palette::replace` meets its contract: the first i words stand replaced. Assumes nothing.
-use mathlib.Core.Path.{ap, ◌∙◌}
+use mathlib.Core.Path.{refl, ap, ◌∙◌}
 use mathlib.Core.List.{List}
 use Prim.Native.Nat.{ℕ}
 use native.Mathlib.Omega.{arith}
@@ -10,7 +10,7 @@ use Rattle.palette.proofs.Fills.{replaced_none, replaced_more}
 use Rattle.palette.proofs.replace.Goals as goal
 
 pub loop-i-init : goal.loop-i-init
-loop-i-init c = (ap (λ (p : Bor (List ℕ)). p.now) c.of-kept.ensures, replaced_none _ _ _)
+loop-i-init c = (refl, replaced_none _ _ _)
 
 pub loop-i-preserved : goal.loop-i-preserved
 loop-i-preserved c =
